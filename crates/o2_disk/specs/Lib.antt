@@ -1,0 +1,3 @@
+pub mod Device
+pub mod Image
+pub mod Output
