@@ -1,0 +1,4 @@
+pub mod NumberLaws
+pub mod PasteLaws
+pub mod SuperLaws
+pub mod TableLaws

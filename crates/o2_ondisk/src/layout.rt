@@ -1,0 +1,80 @@
+// Tables of fields, and bytes that are no number.
+ghost use Rattle.std.specs.Prelude.{◌≡◌, ◌+◌, ◌≤◌, ◌⊎◌, true, List, ℕ, length, slice_index, IsTrue};
+ghost use Rattle.o2_ondisk.specs.Fields.{put_all, put_at, is_layout, numbers_at, Fit, IsOutside, IsOutsideSpan, paste_at, bytes_at, is_apart};
+
+/// Where a field begins, and how many bytes it has.
+#[derive(Clone, Copy, Debug, PartialEq, Eq)]
+pub struct Field {
+    pub at: usize,
+    pub width: usize,
+}
+
+/// The table of a structure's numbers, in the order of their places.
+#[derive(Clone, Copy, Debug)]
+pub struct Layout<const N: usize> {
+    pub fields: [Field; N],
+}
+
+/// Puts a number into each field, the lowest byte first.
+pub fn put_numbers(block: &mut [u8], fields: &[Field], values: &[u64])
+    requires layout { IsTrue (is_layout 0 fields.now (length block.old)) }
+    requires values { length values.now ≡ length fields.now }
+    ensures put { block.new ≡ put_all fields.now values.now block.old }
+    // A read gives them back.
+    ensures back { Fit fields.now values.now → numbers_at fields.now block.new ≡ values.now }
+    // No other byte changes.
+    ensures alone { (i : ℕ) → IsOutside fields.now i → slice_index block.new i ≡ slice_index block.old i }
+{
+    for k in 0..fields.len() {
+        let field = fields[k];
+        put_number(block, field.at, field.width, values[k]);
+    }
+}
+
+fn put_number(block: &mut [u8], at: usize, width: usize, value: u64)
+    requires width { width ≤ 8 }
+    requires fits { at + width ≤ length block.old }
+    ensures { block.new ≡ put_at at width value block.old }
+{
+    block[at..at + width].copy_from_slice(&value.to_le_bytes()[..width]);
+}
+
+/// Puts bytes that are no number, as a name or an identifier.
+pub fn put_bytes(block: &mut [u8], at: usize, new: &[u8])
+    requires { at + length new.now ≤ length block.old }
+    ensures put { block.new ≡ paste_at at new.now block.old }
+    // A read gives them back.
+    ensures back { bytes_at at (length new.now) block.new ≡ new.now }
+    // The fields of a table that lies apart keep their numbers.
+    ensures numbers { (fields : List Field) → is_apart at (length new.now) fields ≡ true → numbers_at fields block.new ≡ numbers_at fields block.old }
+    // Other bytes stay, together and one by one.
+    ensures others { (from count : ℕ) → (from + count ≤ at) ⊎ (at + length new.now ≤ from) → bytes_at from count block.new ≡ bytes_at from count block.old }
+    ensures alone { (i : ℕ) → IsOutsideSpan at (length new.now) i → slice_index block.new i ≡ slice_index block.old i }
+{
+    block[at..at + new.len()].copy_from_slice(new);
+}
+
+/// Puts the bytes of an array, whose length a proof knows.
+pub fn put_array<const K: usize>(block: &mut [u8], at: usize, new: &[u8; K])
+    requires { at + K ≤ length block.old }
+    ensures put { block.new ≡ paste_at at new.now block.old }
+    // A read gives them back.
+    ensures back { bytes_at at K block.new ≡ new.now }
+    // The fields of a table that lies apart keep their numbers.
+    ensures numbers { (fields : List Field) → is_apart at K fields ≡ true → numbers_at fields block.new ≡ numbers_at fields block.old }
+    // Other bytes stay, together and one by one.
+    ensures others { (from count : ℕ) → (from + count ≤ at) ⊎ (at + K ≤ from) → bytes_at from count block.new ≡ bytes_at from count block.old }
+    ensures alone { (i : ℕ) → IsOutsideSpan at K i → slice_index block.new i ≡ slice_index block.old i }
+{
+    put_bytes(block, at, new);
+}
+
+/// The bytes that stand at `at`.
+pub fn array_at<const K: usize>(bytes: &[u8], at: usize) -> [u8; K]
+    requires { at + K ≤ length bytes.now }
+    ensures { result ≡ bytes_at at K bytes.now }
+{
+    let mut array = [0; K];
+    array.copy_from_slice(&bytes[at..at + K]);
+    array
+}

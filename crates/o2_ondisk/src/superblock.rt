@@ -1,0 +1,173 @@
+// The super's part of the dinode in block 2.
+ghost use Rattle.std.specs.Prelude.{◌≡◌, ◌≤◌, ℕ, List, drop, take, length, slice_index, IsTrue};
+ghost use Rattle.o2_ondisk.specs.Fields.{Fit, numbers_at, paste_at, put_all, IsOutside, is_disjoint};
+ghost use Rattle.o2_ondisk.specs.Super.{super_of, super_numbers, super_number_fields, super_fields, with_super};
+
+use crate::number::{u16_at, u32_at, u64_at, wide16, wide32, wide64};
+use crate::{Field, Layout, array_at, put_array, put_numbers};
+
+/// Where the part begins in its dinode.
+pub const SUPER_AT: usize = 0xc0;
+
+/// Where the part's last field ends, in bytes from the part's begin.
+pub const SUPER_SIZE: usize = 0xc8;
+
+/// Where the label stands in the part.
+pub const LABEL_AT: usize = 0x50;
+
+/// Where the uuid stands in the part.
+pub const UUID_AT: usize = 0x90;
+
+/// Where the cluster stack's name and its cluster's name stand in the part.
+pub const CLUSTER_INFO_AT: usize = 0xa0;
+
+/// The numbers of the part, those of the directory hash's seed as three.
+pub const SUPER: Layout<14> = Layout {
+    fields: [
+        Field { at: 0x1c, width: 4 },
+        Field { at: 0x20, width: 4 },
+        Field { at: 0x24, width: 4 },
+        Field { at: 0x28, width: 8 },
+        Field { at: 0x30, width: 8 },
+        Field { at: 0x38, width: 4 },
+        Field { at: 0x3c, width: 4 },
+        Field { at: 0x40, width: 2 },
+        Field { at: 0x44, width: 4 },
+        Field { at: 0x48, width: 8 },
+        Field { at: 0xb8, width: 2 },
+        Field { at: 0xbc, width: 4 },
+        Field { at: 0xc0, width: 4 },
+        Field { at: 0xc4, width: 4 },
+    ],
+};
+
+/// The words that the hash of a directory's names starts from, as `s_dx_seed`.
+#[derive(Clone, Copy, Debug, PartialEq, Eq)]
+pub struct DxSeed {
+    pub first: u32,
+    pub second: u32,
+    pub third: u32,
+}
+
+/// The fields of `struct ocfs2_super_block`, without its revision and its check data.
+#[derive(Clone, Copy, Debug, PartialEq, Eq)]
+pub struct Super {
+    pub feature_compat: u32,
+    pub feature_incompat: u32,
+    pub feature_ro_compat: u32,
+    /// A block.
+    pub root_blkno: u64,
+    /// A block.
+    pub system_dir_blkno: u64,
+    /// The power of two that is a block's size in bytes.
+    pub blocksize_bits: u32,
+    /// The power of two that is a cluster's size in bytes.
+    pub clustersize_bits: u32,
+    pub max_slots: u16,
+    pub uuid_hash: u32,
+    /// A block.
+    pub first_cluster_group: u64,
+    /// The volume's name, filled up with NUL.
+    pub label: [u8; 64],
+    pub uuid: [u8; 16],
+    pub cluster_info: [u8; 24],
+    /// In bytes.
+    pub xattr_inline_size: u16,
+    pub dx_seed: DxSeed,
+}
+
+/// The fields of a part. `block` begins where the part does, `SUPER_AT` behind its dinode's begin.
+pub fn read_super(block: &[u8]) -> Super
+    requires { SUPER_SIZE ≤ length block.now }
+    ensures { result ≡ super_of block.now }
+{
+    Super {
+        feature_compat: u32_at(block, 0x1c),
+        feature_incompat: u32_at(block, 0x20),
+        feature_ro_compat: u32_at(block, 0x24),
+        root_blkno: u64_at(block, 0x28),
+        system_dir_blkno: u64_at(block, 0x30),
+        blocksize_bits: u32_at(block, 0x38),
+        clustersize_bits: u32_at(block, 0x3c),
+        max_slots: u16_at(block, 0x40),
+        uuid_hash: u32_at(block, 0x44),
+        first_cluster_group: u64_at(block, 0x48),
+        label: array_at(block, LABEL_AT),
+        uuid: array_at(block, UUID_AT),
+        cluster_info: array_at(block, CLUSTER_INFO_AT),
+        xattr_inline_size: u16_at(block, 0xb8),
+        dx_seed: DxSeed {
+            first: u32_at(block, 0xbc),
+            second: u32_at(block, 0xc0),
+            third: u32_at(block, 0xc4),
+        },
+    }
+}
+
+fn super_values(x: &Super) -> [u64; 14]
+    ensures values { result ≡ super_numbers x.now }
+    ensures fit { Fit SUPER.fields (super_numbers x.now) }
+{
+    [
+        wide32(x.feature_compat),
+        wide32(x.feature_incompat),
+        wide32(x.feature_ro_compat),
+        wide64(x.root_blkno),
+        wide64(x.system_dir_blkno),
+        wide32(x.blocksize_bits),
+        wide32(x.clustersize_bits),
+        wide16(x.max_slots),
+        wide32(x.uuid_hash),
+        wide64(x.first_cluster_group),
+        wide16(x.xattr_inline_size),
+        wide32(x.dx_seed.first),
+        wide32(x.dx_seed.second),
+        wide32(x.dx_seed.third),
+    ]
+}
+
+fn put_super_numbers(block: &mut [u8], x: &Super)
+    requires { SUPER_SIZE ≤ length block.old }
+    ensures put { block.new ≡ put_all super_number_fields (super_numbers x.now) block.old }
+    ensures numbers { numbers_at super_number_fields block.new ≡ super_numbers x.now }
+    ensures alone { (i : ℕ) → IsOutside super_number_fields i → slice_index block.new i ≡ slice_index block.old i }
+{
+    put_numbers(block, &SUPER.fields, &super_values(x));
+}
+
+/// Puts a part's fields. `block` begins where the part does.
+pub fn write_super(block: &mut [u8], x: &Super)
+    requires { SUPER_SIZE ≤ length block.old }
+    ensures put { block.new ≡ with_super x.now block.old }
+    // A read gives them back.
+    ensures back { super_of block.new ≡ x.now }
+    // A byte outside all fields stays, within the part and past it.
+    ensures alone { (i : ℕ) → IsOutside super_fields i → slice_index block.new i ≡ slice_index block.old i }
+{
+    put_super_numbers(block, x);
+    put_array(block, LABEL_AT, &x.label);
+    put_array(block, UUID_AT, &x.uuid);
+    put_array(block, CLUSTER_INFO_AT, &x.cluster_info);
+}
+
+/// Puts the label alone. `block` begins where the part does.
+pub fn write_label(block: &mut [u8], label: &[u8; 64])
+    requires { SUPER_SIZE ≤ length block.old }
+    ensures put { block.new ≡ paste_at 0x50 label.now block.old }
+    // The label changes, and no other field.
+    ensures back { super_of block.new ≡ record (super_of block.old) { label = label.now } }
+{
+    put_array(block, LABEL_AT, label);
+}
+
+/// A law: no field of the part reaches over another, and the last one ends where the part does.
+pub fn fields_are_apart()
+    ensures { IsTrue (is_disjoint 0 super_fields SUPER_SIZE) }
+{
+}
+
+/// A law: the part's fields lie in the first 512 bytes of its block.
+pub fn fields_lie_in_first_sector()
+    ensures { (block : List ℕ) → super_of (drop SUPER_AT (take 512 block)) ≡ super_of (drop SUPER_AT block) }
+{
+}
