@@ -1,0 +1,4 @@
+pub use Rattle.o2_disk.specs.Image
+pub mod Superblock
+pub mod Features
+pub mod Label

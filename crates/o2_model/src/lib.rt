@@ -1,0 +1,8 @@
+//! What a volume is: the definitions over whole images that every contract above cites, and their laws.
+#![tactic(auto)]
+
+mod laws;
+mod oddity;
+
+pub use laws::label_alone_changes;
+pub use oddity::Oddity;

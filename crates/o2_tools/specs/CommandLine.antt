@@ -1,0 +1,65 @@
+-- The command lines that the program reads, and how it refuses other words.
+use Rattle.std.specs.Prelude.{◌≡◌, ◌≢◌, ◌⊎◌, ℕ, ◌+◌, ◌<◌, ◌≤◌, List, [], ◌∷◌, ◌++◌, length, map, take, codes, slice_index, slice_index_or, String, string_bytes}
+use Rattle.std.specs.declared.alloc.Global.{Global}
+use Rattle.o2_tools.specs.declared.cause.Cause.{Cause}
+use Rattle.o2_tools.specs.declared.cause.Cause.TheVariants.{Fine, Usage, Later, NotOcfs2, Range, DeviceFault, NoMemory}
+
+-- the words behind the program's name
+abbrev pub Words : Type 0
+Words = List (List ℕ)
+
+abbrev pub texts : List (String Global) → Words
+texts words = map string_bytes words
+
+-- a word that may name a device: it is not empty and does not begin with a dash
+pub record IsDevice (word : List ℕ) : Type 0 where
+  pub some : 0 < length word
+  pub no_option : slice_index word 0 ≢ 45
+
+-- tunefs -L LABEL DEVICE
+pub record IsLabelLine (label device : List ℕ) (words : Words) : Type 0 where
+  pub form : words ≡ codes "tunefs" ∷ codes "-L" ∷ label ∷ device ∷ []
+  pub names : IsDevice device
+
+-- the words are a command line
+abbrev pub IsLine : Words → Type 0
+IsLine words = (label : List ℕ) × ((device : List ℕ) × IsLabelLine label device words)
+
+-- more words behind them make one
+abbrev pub Begins : Words → Type 0
+Begins words = (rest : Words) × IsLine (words ++ rest)
+
+-- The words leave the grammar at this place: those before it begin a command line, and with the word there they don't.
+-- Words that begin one and end too soon leave it behind their last.
+pub record LeavesAt (words : Words) (place : ℕ) : Type 0 where
+  pub within : place ≤ length words
+  pub begins : Begins (take place words)
+  pub leaves : place < length words → Begins (take (place + 1) words) → ⊥
+
+-- the first word is this one
+abbrev pub IsFirst : List ℕ → Words → Type 0
+IsFirst tool words = (rest : Words) × (words ≡ tool ∷ rest)
+
+-- the first two are these
+abbrev pub AreFirst : List ℕ → List ℕ → Words → Type 0
+AreFirst tool option words = (rest : Words) × (words ≡ tool ∷ option ∷ rest)
+
+-- a tool or a form that is not built yet
+abbrev pub IsNotBuilt : Words → Type 0
+IsNotBuilt words =
+    IsFirst (codes "mkfs") words ⊎ IsFirst (codes "fsck") words ⊎ IsFirst (codes "debugfs") words ⊎ IsFirst (codes "sample") words
+    ⊎ AreFirst (codes "tunefs") (codes "-N") words ⊎ AreFirst (codes "tunefs") (codes "-J") words ⊎ AreFirst (codes "tunefs") (codes "-S") words
+
+-- words that are no command line, and the cause by which they are refused
+abbrev pub RefusesWords : Words → Cause → Type 0
+RefusesWords words Later = IsNotBuilt words
+RefusesWords words (Usage place) = (IsNotBuilt words → ⊥) × LeavesAt words place
+RefusesWords words Fine = ⊥
+RefusesWords words NotOcfs2 = ⊥
+RefusesWords words (Range which value) = ⊥
+RefusesWords words DeviceFault = ⊥
+RefusesWords words NoMemory = ⊥
+
+-- the label that a command line gives
+abbrev pub label_of : Words → List ℕ
+label_of words = slice_index_or words 2 []

@@ -1,0 +1,30 @@
+-- The status of each cause, and the causes of refused calls.
+use Rattle.std.specs.Prelude.{◌≡◌, ℕ}
+use Rattle.o2_disk.specs.declared.disk.AttachFault.{AttachFault}
+use Rattle.o2_disk.specs.declared.disk.AttachFault.TheVariants.{NoMemory as NoMemoryForName, Failed as NotAttached}
+use Rattle.o2_tools.specs.declared.cause.Cause.{Cause}
+use Rattle.o2_tools.specs.declared.cause.Cause.TheVariants.{Fine, Usage, Later, NotOcfs2, Range, DeviceFault, NoMemory}
+
+abbrev pub status_of : Cause → ℕ
+status_of Fine = 0
+status_of (Usage place) = 16
+status_of Later = 1
+status_of NotOcfs2 = 1
+status_of (Range which value) = 1
+status_of DeviceFault = 8
+status_of NoMemory = 64
+
+-- a device that is not attached
+abbrev pub IsOfAttach : AttachFault → Cause → Type 0
+IsOfAttach NoMemoryForName cause = cause ≡ NoMemory
+IsOfAttach NotAttached cause = cause ≡ DeviceFault
+
+-- the run gave nothing up and met no fault: it was asked what can't be done
+abbrev pub IsRefusal : Cause → Type 0
+IsRefusal Fine = ⊥
+IsRefusal (Usage place) = Unit {0}
+IsRefusal Later = Unit {0}
+IsRefusal NotOcfs2 = Unit {0}
+IsRefusal (Range which value) = Unit {0}
+IsRefusal DeviceFault = ⊥
+IsRefusal NoMemory = ⊥

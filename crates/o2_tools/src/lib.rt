@@ -1,0 +1,10 @@
+//! The program: from the words of a command line to the changed device.
+#![tactic(auto)]
+
+mod cause;
+mod label;
+mod superblock;
+mod words;
+
+pub use cause::{Cause, Done, Which};
+pub use words::{LabelLine, read_words};
