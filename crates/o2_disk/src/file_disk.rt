@@ -151,3 +151,41 @@ impl Disk for FileDisk {
         Ok(())
     }
 }
+
+#[cfg(test)]
+mod tests {
+    use super::*;
+    use std::fs;
+    use std::test::Fail;
+
+    const NAME: &str = "file_disk.img";
+
+    #[test]
+    fn keeps_sectors_in_a_file(rt: HostRuntime) -> Result<(), Fail> {
+        fs::write(&rt, NAME, [7u8; 1536].as_slice())?;
+        let mut disk = FileDisk::new(rt, rt.alloc());
+        let sectors = disk.attach(rt.alloc(), NAME, How::ReadWrite)?;
+        assert_eq!(rt; sectors, 3);
+        disk.write(1, &[9; 1024])?;
+        disk.sync()?;
+        let sectors = disk.attach(rt.alloc(), NAME, How::ReadOnly)?;
+        assert_eq!(rt; sectors, 3);
+        let mut untouched = [0; 512];
+        disk.read(0, &mut untouched)?;
+        assert_eq!(rt; untouched, [7; 512]);
+        let mut written = [0; 1024];
+        disk.read(1, &mut written)?;
+        assert_eq!(rt; written, [9; 1024]);
+        fs::write(&rt, NAME, [7u8; 1000].as_slice())?;
+        let sectors = disk.attach(rt.alloc(), NAME, How::ReadWrite)?;
+        assert_eq!(rt; sectors, 1);
+        assert_eq!(rt; disk.faults, 0);
+        fs::remove_file(&rt, NAME)?;
+        for (refused, faults) in [(NAME, 1), (".", 2), ("", 3)] {
+            let answer = disk.attach(rt.alloc(), refused, How::ReadOnly);
+            assert_eq!(rt; answer, Err(AttachFault::Failed), "at {refused}");
+            assert_eq!(rt; disk.faults, faults);
+        }
+        Ok(())
+    }
+}

@@ -41,3 +41,16 @@ impl Sink for StdSink {
         }
     }
 }
+
+#[cfg(test)]
+mod tests {
+    use super::*;
+
+    #[test]
+    fn puts_text(rt: HostRuntime) {
+        let mut sink = StdSink::new(rt);
+        assert_eq!(rt; sink.put(b"some text\n"), Ok(10));
+        assert_eq!(rt; sink.put(b""), Ok(0));
+        assert_eq!(rt; sink.faults, 0);
+    }
+}
