@@ -12,8 +12,9 @@ use std::os::unix::fs::{FileExt, FileTypeExt};
 /// A regular file or a block device.
 ///
 /// A read or write goes on where the system moved fewer bytes than asked, and again where a signal interrupted it. One
-/// that moves no byte is a fault, as is each other error of the system. After a sync that failed, each call is a fault
-/// until the next attach: the system may have dropped what it could not write, and would answer a later sync Ok.
+/// that moves no byte is a fault, as is each other error of the system. After a sync that failed, each read, write and
+/// sync is a fault until the next attach: the system may have dropped what it could not write, and would answer a later
+/// sync Ok.
 #[derive(Drop)]
 pub struct FileDisk {
     rt: HostRuntime,
@@ -67,25 +68,23 @@ fn place(at: u64) -> io::Result<u64> {
     Ok(512 * at)
 }
 
+fn opened(file: &Option<File>) -> io::Result<&File> {
+    match file {
+        Some(file) => Ok(file),
+        None => Err(io::ErrorKind::NotConnected.into()),
+    }
+}
+
 fn read_sectors(file: &Option<File>, at: u64, out: &mut [u8]) -> io::Result<()> {
-    let Some(file) = file else {
-        return Err(io::ErrorKind::NotConnected.into());
-    };
-    file.read_exact_at(out, place(at)?)
+    opened(file)?.read_exact_at(out, place(at)?)
 }
 
 fn write_sectors(file: &Option<File>, at: u64, bytes: &[u8]) -> io::Result<()> {
-    let Some(file) = file else {
-        return Err(io::ErrorKind::NotConnected.into());
-    };
-    file.write_all_at(bytes, place(at)?)
+    opened(file)?.write_all_at(bytes, place(at)?)
 }
 
 fn sync_sectors(file: &Option<File>) -> io::Result<()> {
-    let Some(file) = file else {
-        return Err(io::ErrorKind::NotConnected.into());
-    };
-    file.sync_data()
+    opened(file)?.sync_data()
 }
 
 impl Disk for FileDisk {
