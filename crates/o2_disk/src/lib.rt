@@ -2,9 +2,13 @@
 #![tactic(auto)]
 
 mod disk;
+mod file_disk;
 mod sector;
 mod sink;
+mod std_sink;
 
 pub use disk::{AttachFault, Disk, Failed, How, NoMemory};
+pub use file_disk::FileDisk;
 pub use sector::put_sector;
 pub use sink::Sink;
+pub use std_sink::StdSink;
