@@ -1,4 +1,5 @@
 pub mod NumberLaws
+pub mod NumberPuts
 pub mod PasteLaws
 pub mod SuperLaws
 pub mod TableLaws

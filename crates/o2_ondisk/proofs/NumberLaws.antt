@@ -1,8 +1,8 @@
 -- The laws of a number among bytes, and of a run of bytes.
-use Rattle.std.proofs.Common.{◌≡◌, ℕ, zero, suc, ◌+◌, ◌-◌, ◌*◌, ◌<◌, ◌≤◌, min, List, length, take, drop, get_or, refl, sym, ◌∙◌, ap, arith, length-drop}
+use Rattle.std.proofs.Common.{◌≡◌, ℕ, zero, suc, ◌+◌, ◌-◌, ◌*◌, ◌<◌, ◌≤◌, ◌^◌, min, List, length, take, drop, get_or, refl, sym, ◌∙◌, ap, arith, length-drop}
 use Rattle.std.proofs.lemmas.List.{get_or-take, get_or-drop, drop-drop, ext_get_or, length-take, take-take, drop-take}
-use Rattle.byteorder.specs.Endian.{little_from}
-use Rattle.o2_ondisk.specs.Number.{number_at}
+use Rattle.byteorder.specs.Endian.{little_from, big_from}
+use Rattle.o2_ondisk.specs.Number.{number_at, big_number_at}
 use Rattle.o2_ondisk.specs.Fields.{bytes_at}
 
 little_from-same : (i n : ℕ) (xs ys : List ℕ) → ((k : ℕ) → i ≤ k → k < i + n → get_or xs k 0 ≡ get_or ys k 0) → little_from i n xs ≡ little_from i n ys
@@ -17,6 +17,17 @@ pub number_at-same : (at width : ℕ) (xs ys : List ℕ) → ((k : ℕ) → at �
 unfolding number_at
 number_at-same at width xs ys same = little_from-same 0 width (drop at xs) (drop at ys) (λ k from to. get_or-drop at xs k 0 ∙ same (at + k) (omega arith) (omega arith) ∙ sym (get_or-drop at ys k 0))
 
+big_from-same : (i n : ℕ) (xs ys : List ℕ) → ((k : ℕ) → i ≤ k → k < i + n → get_or xs k 0 ≡ get_or ys k 0) → big_from i n xs ≡ big_from i n ys
+big_from-same i zero xs ys same = refl
+big_from-same i (suc n) xs ys same =
+    let here : get_or xs i 0 ≡ get_or ys i 0 = same i (omega arith) (omega arith) in
+    let rest : big_from (suc i) n xs ≡ big_from (suc i) n ys = big_from-same (suc i) n xs ys (λ k from to. same k (omega arith) (omega arith)) in
+    ap (λ (b : ℕ). b * 256 ^ n + big_from (suc i) n xs) here ∙ ap (λ (r : ℕ). get_or ys i 0 * 256 ^ n + r) rest
+
+pub big_number_at-same : (at width : ℕ) (xs ys : List ℕ) → ((k : ℕ) → at ≤ k → k < at + width → get_or xs k 0 ≡ get_or ys k 0) → big_number_at at width xs ≡ big_number_at at width ys
+unfolding big_number_at
+big_number_at-same at width xs ys same = big_from-same 0 width (drop at xs) (drop at ys) (λ k from to. get_or-drop at xs k 0 ∙ same (at + k) (omega arith) (omega arith) ∙ sym (get_or-drop at ys k 0))
+
 -- a number within the first n bytes is told by these
 pub number_at-take : (at width n : ℕ) (bytes : List ℕ) → at + width ≤ n → number_at at width (take n bytes) ≡ number_at at width bytes
 number_at-take at width n bytes within = number_at-same at width (take n bytes) bytes (λ k from to. get_or-take n bytes k 0 (omega arith))
@@ -25,6 +36,13 @@ number_at-take at width n bytes within = number_at-same at width (take n bytes) 
 pub number_at-drop : (at width n : ℕ) (bytes : List ℕ) → number_at at width (drop n bytes) ≡ number_at (n + at) width bytes
 unfolding number_at
 number_at-drop at width n bytes = ap (λ (l : List ℕ). little_from 0 width l) (drop-drop at n bytes)
+
+pub big_number_at-take : (at width n : ℕ) (bytes : List ℕ) → at + width ≤ n → big_number_at at width (take n bytes) ≡ big_number_at at width bytes
+big_number_at-take at width n bytes within = big_number_at-same at width (take n bytes) bytes (λ k from to. get_or-take n bytes k 0 (omega arith))
+
+pub big_number_at-drop : (at width n : ℕ) (bytes : List ℕ) → big_number_at at width (drop n bytes) ≡ big_number_at (n + at) width bytes
+unfolding big_number_at
+big_number_at-drop at width n bytes = ap (λ (l : List ℕ). big_from 0 width l) (drop-drop at n bytes)
 
 -- bytes are told one by one
 pub bytes_at-same : (at count : ℕ) (xs ys : List ℕ) → length xs ≡ length ys → ((k : ℕ) → at ≤ k → k < at + count → get_or xs k 0 ≡ get_or ys k 0) → bytes_at at count xs ≡ bytes_at at count ys

@@ -37,18 +37,6 @@ module _ (at : ℕ) (new bytes : List ℕ) (fits : at + length new ≤ length by
   unfolding paste_at
   bytes_at-paste_at = ap (λ (l : List ℕ). take (length new) l) (drop_at (take at bytes) (new ++ drop (at + length new) bytes) at head_length) ∙ take_at new (drop (at + length new) bytes) (length new) refl
 
-  pub numbers_at-paste_at : (fields : List Field) → is_apart at (length new) fields ≡ true → numbers_at fields (paste_at at new bytes) ≡ numbers_at fields bytes
-  numbers_at-paste_at [] test = refl
-  numbers_at-paste_at (f ∷ fields) test =
-      ap (λ (n : ℕ). n ∷ numbers_at fields (paste_at at new bytes)) (number_at-same f.at f.width (paste_at at new bytes) bytes (λ k from to. ⊎_elim (λ before. get_or-paste_at_before k (omega (arith, before, to))) (λ behind. get_or-paste_at_behind k (omega (arith, behind, from))) side))
-      ∙ ap (λ (l : List ℕ). number_at f.at f.width bytes ∷ l) (numbers_at-paste_at fields rest)
-    where
-      side : (f.at + f.width ≤ at) ⊎ (at + length new ≤ f.at)
-      side = grind (arith, nat_tests)
-
-      rest : is_apart at (length new) fields ≡ true
-      rest = grind (arith, nat_tests)
-
   pub get_or-paste_at_outside : (i : ℕ) → IsOutsideSpan at (length new) i → get_or (paste_at at new bytes) i 0 ≡ get_or bytes i 0
   get_or-paste_at_outside i out = elim (cases_lt i at) [
     | inl before ↦ get_or-paste_at_before i before

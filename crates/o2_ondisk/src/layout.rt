@@ -1,6 +1,6 @@
 // Tables of fields, and bytes that are no number.
-ghost use Rattle.std.specs.Prelude.{◌≡◌, ◌+◌, ◌≤◌, ◌⊎◌, true, List, ℕ, length, slice_index, IsTrue};
-ghost use Rattle.o2_ondisk.specs.Fields.{put_all, put_at, is_layout, numbers_at, Fit, IsOutside, IsOutsideSpan, paste_at, bytes_at, is_apart};
+ghost use Rattle.std.specs.Prelude.{◌≡◌, ◌+◌, ◌≤◌, ◌<◌, ◌⊎◌, true, All, AllPairs, List, ℕ, length, slice_index, IsTrue};
+ghost use Rattle.o2_ondisk.specs.Fields.{put_all, put_at, big_put_all, big_put_at, is_layout, is_disjoint, numbers_at, big_numbers_at, Fit, IsSameIn, IsOutside, IsOutsideSpan, paste_at, bytes_at, is_apart};
 
 /// Where a field begins, and how many bytes it has.
 #[derive(Clone, Copy, Debug, PartialEq, Eq)]
@@ -37,6 +37,30 @@ fn put_number(block: &mut [u8], at: usize, width: usize, value: u64)
     ensures { block.new ≡ put_at at width value block.old }
 {
     block[at..at + width].copy_from_slice(&value.to_le_bytes()[..width]);
+}
+
+/// Puts a number into each field, the highest byte first, as in the blocks of a JBD2 log.
+pub fn put_big_numbers(block: &mut [u8], fields: &[Field], values: &[u64])
+    requires layout { IsTrue (is_layout 0 fields.now (length block.old)) }
+    requires values { length values.now ≡ length fields.now }
+    ensures put { block.new ≡ big_put_all fields.now values.now block.old }
+    // A read gives them back.
+    ensures back { Fit fields.now values.now → big_numbers_at fields.now block.new ≡ values.now }
+    // No other byte changes.
+    ensures alone { (i : ℕ) → IsOutside fields.now i → slice_index block.new i ≡ slice_index block.old i }
+{
+    for k in 0..fields.len() {
+        let field = fields[k];
+        put_big_number(block, field.at, field.width, values[k]);
+    }
+}
+
+fn put_big_number(block: &mut [u8], at: usize, width: usize, value: u64)
+    requires width { width ≤ 8 }
+    requires fits { at + width ≤ length block.old }
+    ensures { block.new ≡ big_put_at at width value block.old }
+{
+    block[at..at + width].copy_from_slice(&value.to_be_bytes()[8 - width..]);
 }
 
 /// Puts bytes that are no number, as a name or an identifier.
@@ -77,4 +101,20 @@ pub fn array_at<const K: usize>(bytes: &[u8], at: usize) -> [u8; K]
     let mut array = [0; K];
     array.copy_from_slice(&bytes[at..at + K]);
     array
+}
+
+/// A law: where a table's test holds, no field reaches over a later one, and each ends within the structure.
+pub fn tested_fields_are_apart()
+    ensures apart { (size : ℕ) (fields : List Field) → IsTrue (is_disjoint 0 fields size) → AllPairs (λ f g. f.at + f.width ≤ g.at) fields }
+    ensures within { (size : ℕ) (fields : List Field) → IsTrue (is_disjoint 0 fields size) → All (λ f. f.at + f.width ≤ size) fields }
+    // The stronger test of a table of numbers says the same.
+    ensures numbers { (size : ℕ) (fields : List Field) → IsTrue (is_layout 0 fields size) → IsTrue (is_disjoint 0 fields size) }
+{
+}
+
+/// A law: a table's numbers tell each byte of its fields.
+pub fn numbers_tell_bytes()
+    ensures low_first { (fields : List Field) (xs ys : List ℕ) → All (λ b. b < 256) xs → All (λ b. b < 256) ys → numbers_at fields xs ≡ numbers_at fields ys → All (IsSameIn xs ys) fields }
+    ensures high_first { (fields : List Field) (xs ys : List ℕ) → All (λ b. b < 256) xs → All (λ b. b < 256) ys → big_numbers_at fields xs ≡ big_numbers_at fields ys → All (IsSameIn xs ys) fields }
+{
 }

@@ -160,14 +160,16 @@ pub fn write_label(block: &mut [u8], label: &[u8; 64])
     put_array(block, LABEL_AT, label);
 }
 
-/// A law: no field of the part reaches over another, and the last one ends where the part does.
+/// A law: no field of the part reaches over another, and each ends within the part.
 pub fn fields_are_apart()
-    ensures { IsTrue (is_disjoint 0 super_fields SUPER_SIZE) }
+    ensures apart { IsTrue (is_disjoint 0 super_fields 0xc8) }
+    ensures size { SUPER_SIZE ≡ 0xc8 }
 {
 }
 
-/// A law: the part's fields lie in the first 512 bytes of its block.
+/// A law: the part's fields lie in the first 512 bytes of their block.
 pub fn fields_lie_in_first_sector()
-    ensures { (block : List ℕ) → super_of (drop SUPER_AT (take 512 block)) ≡ super_of (drop SUPER_AT block) }
+    ensures first { (block : List ℕ) → super_of (drop 0xc0 (take 512 block)) ≡ super_of (drop 0xc0 block) }
+    ensures begins { SUPER_AT ≡ 0xc0 }
 {
 }
