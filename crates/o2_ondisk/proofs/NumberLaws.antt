@@ -47,11 +47,11 @@ big_number_at-drop at width n bytes = ap (λ (l : List ℕ). big_from 0 width l)
 -- bytes are told one by one
 pub bytes_at-same : (at count : ℕ) (xs ys : List ℕ) → length xs ≡ length ys → ((k : ℕ) → at ≤ k → k < at + count → get_or xs k 0 ≡ get_or ys k 0) → bytes_at at count xs ≡ bytes_at at count ys
 bytes_at-same at count xs ys long same = ext_get_or 0 (bytes_at at count xs) (bytes_at at count ys) (length-bytes_at xs ∙ ap (λ (n : ℕ). min count (n - at)) long ∙ sym (length-bytes_at ys)) (λ i h.
-      let low : i < count = omega (arith, h, length-take count (drop at xs)) in
-      get_or-take count (drop at xs) i 0 low ∙ get_or-drop at xs i 0 ∙ same (at + i) (omega arith) (omega (arith, low)) ∙ sym (get_or-take count (drop at ys) i 0 low ∙ get_or-drop at ys i 0))
-    where
-      length-bytes_at : (l : List ℕ) → length (bytes_at at count l) ≡ min count (length l - at)
-      length-bytes_at l = length-take count (drop at l) ∙ ap (λ (n : ℕ). min count n) (length-drop at l)
+    let low : i < count = omega (arith, h, length-take count (drop at xs)) in
+    get_or-take count (drop at xs) i 0 low ∙ get_or-drop at xs i 0 ∙ same (at + i) (omega arith) (omega (arith, low)) ∙ sym (get_or-take count (drop at ys) i 0 low ∙ get_or-drop at ys i 0))
+  where
+    length-bytes_at : (l : List ℕ) → length (bytes_at at count l) ≡ min count (length l - at)
+    length-bytes_at l = length-take count (drop at l) ∙ ap (λ (n : ℕ). min count n) (length-drop at l)
 
 -- bytes within the first n are told by these
 pub bytes_at-take : (at count n : ℕ) (bytes : List ℕ) → at + count ≤ n → bytes_at at count (take n bytes) ≡ bytes_at at count bytes

@@ -28,16 +28,16 @@ module _ (xs ys : List ℕ) (fits : (k : ℕ) → slice_index xs k < 256) (fits'
       elim (cases_lt i k) [
         | inl later ↦ little_told (suc i) n rest k (omega arith) (omega arith)
         | inr here ↦ let first : slice_index xs i ≡ slice_index ys i = omega (arith, same, rest) in
-        let place : i ≡ k = omega arith in
-        subst (λ (j : ℕ). slice_index xs j ≡ slice_index ys j) place first
+            let place : i ≡ k = omega arith in
+            subst (λ (j : ℕ). slice_index xs j ≡ slice_index ys j) place first
       ]
 
 -- of two sums with rests below m the digit before them is told
 digit_le : (a b r s m : ℕ) → r < m → s < m → a * m + r ≡ b * m + s → a ≤ b
 digit_le a b r s m small small' same = elim (cases_lt b a) [
   | inl above ↦ let more : (b + 1) * m ≤ a * m = mul-le-mul_right m (omega arith) in
-  let split : (b + 1) * m ≡ b * m + 1 * m = add-mul b 1 m in
-  absurd (omega (arith, more, split, same))
+      let split : (b + 1) * m ≡ b * m + 1 * m = add-mul b 1 m in
+      absurd (omega (arith, more, split, same))
   | inr le ↦ le
 ]
 
@@ -55,7 +55,7 @@ module _ (xs ys : List ℕ) (fits : (k : ℕ) → slice_index xs k < 256) (fits'
       elim (cases_lt i k) [
         | inl later ↦ big_told (suc i) n rest k (omega arith) (omega arith)
         | inr here ↦ let place : i ≡ k = omega arith in
-        subst (λ (j : ℕ). slice_index xs j ≡ slice_index ys j) place first
+            subst (λ (j : ℕ). slice_index xs j ≡ slice_index ys j) place first
       ]
 
 -- a way to read numbers that tells their bytes

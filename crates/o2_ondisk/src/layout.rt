@@ -109,12 +109,57 @@ pub fn tested_fields_are_apart()
     ensures within { (size : ℕ) (fields : List Field) → IsTrue (is_disjoint 0 fields size) → All (λ f. f.at + f.width ≤ size) fields }
     // The stronger test of a table of numbers says the same.
     ensures numbers { (size : ℕ) (fields : List Field) → IsTrue (is_layout 0 fields size) → IsTrue (is_disjoint 0 fields size) }
-{
-}
+{}
 
 /// A law: a table's numbers tell each byte of its fields.
 pub fn numbers_tell_bytes()
     ensures low_first { (fields : List Field) (xs ys : List ℕ) → All (λ b. b < 256) xs → All (λ b. b < 256) ys → numbers_at fields xs ≡ numbers_at fields ys → All (IsSameIn xs ys) fields }
     ensures high_first { (fields : List Field) (xs ys : List ℕ) → All (λ b. b < 256) xs → All (λ b. b < 256) ys → big_numbers_at fields xs ≡ big_numbers_at fields ys → All (IsSameIn xs ys) fields }
-{
+{}
+
+#[cfg(test)]
+mod tests {
+    use super::*;
+    use crate::{big_u16_at, big_u32_at, big_u64_at, u8_at, u16_at, u32_at, u64_at};
+
+    const TABLE: [Field; 4] = [
+        Field { at: 1, width: 1 },
+        Field { at: 2, width: 2 },
+        Field { at: 5, width: 4 },
+        Field { at: 10, width: 8 },
+    ];
+
+    const VALUES: [u64; 4] = [0x12, 0x3456, 0x789abcde, 0x0102030405060708];
+
+    #[test]
+    fn puts_numbers_in_both_orders(rt: HostRuntime) {
+        let mut block = [0xee; 19];
+        put_numbers(&mut block, &TABLE, &VALUES);
+        assert_eq!(rt;
+            block,
+            [
+                0xee, 0x12, 0x56, 0x34, 0xee, 0xde, 0xbc, 0x9a, 0x78, 0xee, 8, 7, 6, 5, 4, 3, 2, 1,
+                0xee
+            ]
+        );
+        assert_eq!(rt; u8_at(&block, 1), 0x12);
+        assert_eq!(rt; u16_at(&block, 2), 0x3456);
+        assert_eq!(rt; u32_at(&block, 5), 0x789abcde);
+        assert_eq!(rt; u64_at(&block, 10), 0x0102030405060708);
+
+        put_big_numbers(&mut block, &TABLE, &VALUES);
+        assert_eq!(rt;
+            block,
+            [
+                0xee, 0x12, 0x34, 0x56, 0xee, 0x78, 0x9a, 0xbc, 0xde, 0xee, 1, 2, 3, 4, 5, 6, 7, 8,
+                0xee
+            ]
+        );
+        assert_eq!(rt; big_u16_at(&block, 2), 0x3456);
+        assert_eq!(rt; big_u32_at(&block, 5), 0x789abcde);
+        assert_eq!(rt; big_u64_at(&block, 10), 0x0102030405060708);
+
+        put_bytes(&mut block, 0, &[9, 9]);
+        assert_eq!(rt; array_at(&block, 0), [9, 9, 0x34]);
+    }
 }
