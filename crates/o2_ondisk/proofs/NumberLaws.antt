@@ -1,7 +1,8 @@
 -- The laws of a number among bytes, and of a run of bytes.
-use Rattle.std.proofs.Common.{◌≡◌, ℕ, zero, suc, ◌+◌, ◌-◌, ◌*◌, ◌<◌, ◌≤◌, ◌^◌, min, List, length, take, drop, get_or, refl, sym, ◌∙◌, ap, arith, length-drop}
-use Rattle.std.proofs.lemmas.List.{get_or-take, get_or-drop, drop-drop, ext_get_or, length-take, take-take, drop-take}
+use Rattle.std.proofs.Common.{◌≡◌, ℕ, zero, suc, ◌+◌, ◌-◌, ◌*◌, ◌<◌, ◌≤◌, ◌^◌, min, List, length, take, drop, get_or, refl, sym, ◌∙◌, ap, subst, ◌++◌, arith, length-drop}
+use Rattle.std.proofs.lemmas.List.{get_or-take, get_or-drop, drop-drop, ext_get_or, length-take, take-take, drop-take, get_or_append_left, drop_at}
 use Rattle.byteorder.specs.Endian.{little_from, big_from}
+use Rattle.byteorder.specs.Numbers.{little_from-lt, big_from-lt}
 use Rattle.o2_ondisk.specs.Number.{number_at, big_number_at}
 use Rattle.o2_ondisk.specs.Fields.{bytes_at}
 
@@ -43,6 +44,22 @@ big_number_at-take at width n bytes within = big_number_at-same at width (take n
 pub big_number_at-drop : (at width n : ℕ) (bytes : List ℕ) → big_number_at at width (drop n bytes) ≡ big_number_at (n + at) width bytes
 unfolding big_number_at
 big_number_at-drop at width n bytes = ap (λ (l : List ℕ). big_from 0 width l) (drop-drop at n bytes)
+
+-- a number in the first of two lists of bytes, and in the second
+pub number_at-append_left : (at width : ℕ) (xs ys : List ℕ) → at + width ≤ length xs → number_at at width (xs ++ ys) ≡ number_at at width xs
+number_at-append_left at width xs ys within = number_at-same at width (xs ++ ys) xs (λ k from to. get_or_append_left xs ys 0 k (omega arith))
+
+pub number_at-append_right : (at width : ℕ) (xs ys : List ℕ) → number_at (length xs + at) width (xs ++ ys) ≡ number_at at width ys
+number_at-append_right at width xs ys = sym (number_at-drop at width (length xs) (xs ++ ys)) ∙ ap (λ (l : List ℕ). number_at at width l) (drop_at xs ys (length xs) refl)
+
+-- a number of bytes fits its width
+pub number_at-lt : (at width : ℕ) (bytes : List ℕ) → ((k : ℕ) → get_or bytes k 0 < 256) → number_at at width bytes < 256 ^ width
+unfolding number_at
+number_at-lt at width bytes fits = little_from-lt 0 width (drop at bytes) (λ k. subst (λ (b : ℕ). b < 256) (sym (get_or-drop at bytes k 0)) (fits (at + k)))
+
+pub big_number_at-lt : (at width : ℕ) (bytes : List ℕ) → ((k : ℕ) → get_or bytes k 0 < 256) → big_number_at at width bytes < 256 ^ width
+unfolding big_number_at
+big_number_at-lt at width bytes fits = big_from-lt 0 width (drop at bytes) (λ k. subst (λ (b : ℕ). b < 256) (sym (get_or-drop at bytes k 0)) (fits (at + k)))
 
 -- bytes are told one by one
 pub bytes_at-same : (at count : ℕ) (xs ys : List ℕ) → length xs ≡ length ys → ((k : ℕ) → at ≤ k → k < at + count → get_or xs k 0 ≡ get_or ys k 0) → bytes_at at count xs ≡ bytes_at at count ys

@@ -1,11 +1,11 @@
 -- What the code's copy of a number's bytes is.
-use Rattle.std.proofs.Common.{◌≡◌, ℕ, zero, suc, ◌+◌, ◌-◌, ◌≤◌, List, [], ◌∷◌, ◌++◌, length, take, drop, refl, sym, ◌∙◌, ap, arith}
+use Rattle.std.proofs.Common.{◌≡◌, ℕ, zero, suc, ◌+◌, ◌-◌, ◌≤◌, List, ◌∷◌, take, drop, refl, sym, ◌∙◌, ap, arith}
 use Rattle.std.proofs.lemmas.List.{take_all}
 use Rattle.std.specs.Int.{bytes_low_first, bytes_high_first, byte_at}
 use borrow.Rule.Slice.PartMut.{put_mid}
 use Rattle.byteorder.specs.Endian.{little_bytes, big_bytes}
 use Rattle.byteorder.specs.Numbers.{length-bytes_low_first, length-bytes_high_first}
-use Rattle.o2_ondisk.specs.Fields.{put_at, big_put_at, paste_at}
+use Rattle.o2_ondisk.specs.Fields.{put_at, big_put_at}
 use Rattle.o2_ondisk.proofs.PasteLaws.{put_mid_pastes}
 
 take-low_bytes : (i n m value : ℕ) → n ≤ m → take n (bytes_low_first i m value) ≡ bytes_low_first i n value

@@ -1,5 +1,5 @@
 -- A table of fields: where each stands, how many bytes it has, and what it holds.
-use Rattle.std.specs.Prelude.{◌≡◌, ℕ, ◌+◌, ◌<◌, ◌≤◌, ◌^◌, Bool, true, ◌&&◌, ◌||◌, nat_le, List, [], ◌∷◌, ◌++◌, length, map, take, drop, slice_index}
+use Rattle.std.specs.Prelude.{◌≡◌, ◌⊎◌, All, IsTrue, ℕ, ◌+◌, ◌<◌, ◌≤◌, ◌^◌, Bool, true, ◌&&◌, ◌||◌, nat_le, List, [], ◌∷◌, ◌++◌, length, map, take, drop, slice_index}
 use Rattle.byteorder.specs.Endian.{little_bytes, big_bytes}
 use Rattle.o2_ondisk.specs.Number.{number_at, big_number_at}
 use Rattle.o2_ondisk.specs.declared.layout.Field.{Field}
@@ -83,6 +83,18 @@ Fit (f ∷ fields) (v ∷ values) = (v < 256 ^ f.width) × Fit fields values
 abbrev pub is_apart : ℕ → ℕ → List Field → Bool
 is_apart at count [] = true
 is_apart at count (f ∷ fields) = (nat_le (f.at + f.width) at || nat_le (at + count) f.at) && is_apart at count fields
+
+-- the fields of each table that lies apart from these places keep their numbers
+abbrev pub KeepsNumbersApart : ℕ → ℕ → List ℕ → List ℕ → Type 0
+KeepsNumbersApart at count old new = (fields : List Field) → IsTrue (is_apart at count fields) → numbers_at fields new ≡ numbers_at fields old
+
+-- each run of bytes that lies apart from these places stays
+abbrev pub KeepsBytesApart : ℕ → ℕ → List ℕ → List ℕ → Type 0
+KeepsBytesApart at count old new = (from many : ℕ) → (from + many ≤ at) ⊎ (at + count ≤ from) → bytes_at from many new ≡ bytes_at from many old
+
+-- each byte of the list fits a byte
+abbrev pub AreBytes : List ℕ → Type 0
+AreBytes bytes = All (λ b. b < 256) bytes
 
 -- the two lists have the same bytes in the field
 abbrev pub IsSameIn : List ℕ → List ℕ → Field → Type 0

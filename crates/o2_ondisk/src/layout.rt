@@ -1,6 +1,6 @@
 // Tables of fields, and bytes that are no number.
-ghost use Rattle.std.specs.Prelude.{◌≡◌, ◌+◌, ◌≤◌, ◌<◌, ◌⊎◌, true, All, AllPairs, List, ℕ, length, slice_index, IsTrue};
-ghost use Rattle.o2_ondisk.specs.Fields.{put_all, put_at, big_put_all, big_put_at, is_layout, is_disjoint, numbers_at, big_numbers_at, Fit, IsSameIn, IsOutside, IsOutsideSpan, paste_at, bytes_at, is_apart};
+ghost use Rattle.std.specs.Prelude.{◌≡◌, ◌+◌, ◌≤◌, All, AllPairs, List, ℕ, length, slice_index, IsTrue};
+ghost use Rattle.o2_ondisk.specs.Fields.{put_all, put_at, big_put_all, big_put_at, is_layout, is_disjoint, numbers_at, big_numbers_at, Fit, IsSameIn, IsOutside, IsOutsideSpan, KeepsBytesApart, KeepsNumbersApart, AreBytes, paste_at, bytes_at};
 
 /// Where a field begins, and how many bytes it has.
 #[derive(Clone, Copy, Debug, PartialEq, Eq)]
@@ -70,9 +70,9 @@ pub fn put_bytes(block: &mut [u8], at: usize, new: &[u8])
     // A read gives them back.
     ensures back { bytes_at at (length new.now) block.new ≡ new.now }
     // The fields of a table that lies apart keep their numbers.
-    ensures numbers { (fields : List Field) → is_apart at (length new.now) fields ≡ true → numbers_at fields block.new ≡ numbers_at fields block.old }
+    ensures numbers { KeepsNumbersApart at (length new.now) block.old block.new }
     // Other bytes stay, together and one by one.
-    ensures others { (from count : ℕ) → (from + count ≤ at) ⊎ (at + length new.now ≤ from) → bytes_at from count block.new ≡ bytes_at from count block.old }
+    ensures others { KeepsBytesApart at (length new.now) block.old block.new }
     ensures alone { (i : ℕ) → IsOutsideSpan at (length new.now) i → slice_index block.new i ≡ slice_index block.old i }
 {
     block[at..at + new.len()].copy_from_slice(new);
@@ -85,9 +85,9 @@ pub fn put_array<const K: usize>(block: &mut [u8], at: usize, new: &[u8; K])
     // A read gives them back.
     ensures back { bytes_at at K block.new ≡ new.now }
     // The fields of a table that lies apart keep their numbers.
-    ensures numbers { (fields : List Field) → is_apart at K fields ≡ true → numbers_at fields block.new ≡ numbers_at fields block.old }
+    ensures numbers { KeepsNumbersApart at K block.old block.new }
     // Other bytes stay, together and one by one.
-    ensures others { (from count : ℕ) → (from + count ≤ at) ⊎ (at + K ≤ from) → bytes_at from count block.new ≡ bytes_at from count block.old }
+    ensures others { KeepsBytesApart at K block.old block.new }
     ensures alone { (i : ℕ) → IsOutsideSpan at K i → slice_index block.new i ≡ slice_index block.old i }
 {
     put_bytes(block, at, new);
@@ -105,16 +105,21 @@ pub fn array_at<const K: usize>(bytes: &[u8], at: usize) -> [u8; K]
 
 /// A law: where a table's test holds, no field reaches over a later one, and each ends within the structure.
 pub fn tested_fields_are_apart()
-    ensures apart { (size : ℕ) (fields : List Field) → IsTrue (is_disjoint 0 fields size) → AllPairs (λ f g. f.at + f.width ≤ g.at) fields }
-    ensures within { (size : ℕ) (fields : List Field) → IsTrue (is_disjoint 0 fields size) → All (λ f. f.at + f.width ≤ size) fields }
+    ensures apart { (size : ℕ) (fields : List Field) → IsTrue (is_disjoint 0 fields size)
+        → AllPairs (λ f g. f.at + f.width ≤ g.at) fields }
+    ensures within { (size : ℕ) (fields : List Field) → IsTrue (is_disjoint 0 fields size)
+        → All (λ f. f.at + f.width ≤ size) fields }
     // The stronger test of a table of numbers says the same.
-    ensures numbers { (size : ℕ) (fields : List Field) → IsTrue (is_layout 0 fields size) → IsTrue (is_disjoint 0 fields size) }
+    ensures numbers { (size : ℕ) (fields : List Field) → IsTrue (is_layout 0 fields size)
+        → IsTrue (is_disjoint 0 fields size) }
 {}
 
 /// A law: a table's numbers tell each byte of its fields.
 pub fn numbers_tell_bytes()
-    ensures low_first { (fields : List Field) (xs ys : List ℕ) → All (λ b. b < 256) xs → All (λ b. b < 256) ys → numbers_at fields xs ≡ numbers_at fields ys → All (IsSameIn xs ys) fields }
-    ensures high_first { (fields : List Field) (xs ys : List ℕ) → All (λ b. b < 256) xs → All (λ b. b < 256) ys → big_numbers_at fields xs ≡ big_numbers_at fields ys → All (IsSameIn xs ys) fields }
+    ensures low_first { (fields : List Field) (xs ys : List ℕ) → AreBytes xs → AreBytes ys
+        → numbers_at fields xs ≡ numbers_at fields ys → All (IsSameIn xs ys) fields }
+    ensures high_first { (fields : List Field) (xs ys : List ℕ) → AreBytes xs → AreBytes ys
+        → big_numbers_at fields xs ≡ big_numbers_at fields ys → All (IsSameIn xs ys) fields }
 {}
 
 #[cfg(test)]

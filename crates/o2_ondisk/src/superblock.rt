@@ -9,7 +9,7 @@ use crate::{Field, Layout, array_at, put_array, put_numbers};
 /// Where the part begins in its dinode.
 pub const SUPER_AT: usize = 0xc0;
 
-/// Where the part's last field ends, in bytes from the part's begin.
+/// Where the part's last field ends, in bytes from the part's beginning.
 pub const SUPER_SIZE: usize = 0xc8;
 
 /// Where the label stands in the part.
@@ -18,7 +18,7 @@ pub const LABEL_AT: usize = 0x50;
 /// Where the uuid stands in the part.
 pub const UUID_AT: usize = 0x90;
 
-/// Where the cluster stack's name and its cluster's name stand in the part.
+/// Where the cluster stack's description stands in the part.
 pub const CLUSTER_INFO_AT: usize = 0xa0;
 
 /// The numbers of the part, those of the directory hash's seed as three.
@@ -55,28 +55,30 @@ pub struct Super {
     pub feature_compat: u32,
     pub feature_incompat: u32,
     pub feature_ro_compat: u32,
-    /// A block.
+    /// The block of the root directory's dinode.
     pub root_blkno: u64,
-    /// A block.
+    /// The block of the system directory's dinode.
     pub system_dir_blkno: u64,
     /// The power of two that is a block's size in bytes.
     pub blocksize_bits: u32,
     /// The power of two that is a cluster's size in bytes.
     pub clustersize_bits: u32,
+    /// How many nodes can have the volume mounted at a time.
     pub max_slots: u16,
     pub uuid_hash: u32,
-    /// A block.
+    /// The block of the global bitmap's first group descriptor.
     pub first_cluster_group: u64,
     /// The volume's name, filled up with NUL.
     pub label: [u8; 64],
     pub uuid: [u8; 16],
+    /// A `struct ocfs2_cluster_info`: the cluster stack's name, its flags and the cluster's name.
     pub cluster_info: [u8; 24],
-    /// In bytes.
+    /// The room for attributes at an inode's end, in bytes.
     pub xattr_inline_size: u16,
     pub dx_seed: DxSeed,
 }
 
-/// The fields of a part. `block` begins where the part does, `SUPER_AT` behind its dinode's begin.
+/// The fields of a part. `block` begins where the part does, `SUPER_AT` bytes into its dinode.
 pub fn read_super(block: &[u8]) -> Super
     requires { SUPER_SIZE ≤ length block.now }
     ensures { result ≡ super_of block.now }
