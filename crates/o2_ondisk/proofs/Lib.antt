@@ -4,4 +4,5 @@ pub mod PasteLaws
 pub mod Spread
 pub mod SuperLaws
 pub mod TableLaws
+pub mod TailLaws
 pub mod Told
