@@ -1,13 +1,10 @@
 -- The laws of bytes that are no number.
-use Rattle.std.proofs.Common.{◌≡◌, ◌⊎◌, inl, inr, ⊎_elim, ℕ, ◌+◌, ◌-◌, ◌<◌, ◌≤◌, true, List, [], ◌∷◌, ◌++◌, length, take, drop, get_or, refl, sym, ◌∙◌, ap, arith, length-append, length-drop}
-use Rattle.std.specs.Prelude.{nat_le}
+use Rattle.std.proofs.Common.{◌≡◌, ◌⊎◌, inl, inr, ⊎_elim, ℕ, ◌+◌, ◌-◌, ◌<◌, ◌≤◌, List, ◌++◌, length, take, drop, get_or, refl, ◌∙◌, ap, arith, length-append, length-drop}
 use Rattle.std.proofs.lemmas.List.{get_or_append_left, get_or-append_right, get_or-take, get_or-drop, length-take-le, drop_at, drop-drop, take_at}
 use borrow.Rule.Slice.PartMut.{put_mid, post_of}
 use Rattle.std.proofs.lemmas.Bool.{cases_lt}
-use Rattle.std.proofs.lemmas.Bool.Decides.{nat_tests}
 use Rattle.o2_ondisk.specs.Number.{number_at}
-use Rattle.o2_ondisk.specs.Fields.{numbers_at, paste_at, bytes_at, is_apart, IsOutsideSpan}
-use Rattle.o2_ondisk.specs.declared.layout.Field.{Field}
+use Rattle.o2_ondisk.specs.Fields.{paste_at, bytes_at, IsOutsideSpan}
 use Rattle.o2_ondisk.proofs.NumberLaws.{number_at-same, bytes_at-same}
 
 module _ (at : ℕ) (new bytes : List ℕ) (fits : at + length new ≤ length bytes) where
@@ -37,18 +34,6 @@ module _ (at : ℕ) (new bytes : List ℕ) (fits : at + length new ≤ length by
   unfolding paste_at
   bytes_at-paste_at = ap (λ (l : List ℕ). take (length new) l) (drop_at (take at bytes) (new ++ drop (at + length new) bytes) at head_length) ∙ take_at new (drop (at + length new) bytes) (length new) refl
 
-  pub numbers_at-paste_at : (fields : List Field) → is_apart at (length new) fields ≡ true → numbers_at fields (paste_at at new bytes) ≡ numbers_at fields bytes
-  numbers_at-paste_at [] test = refl
-  numbers_at-paste_at (f ∷ fields) test =
-      ap (λ (n : ℕ). n ∷ numbers_at fields (paste_at at new bytes)) (number_at-same f.at f.width (paste_at at new bytes) bytes (λ k from to. ⊎_elim (λ before. get_or-paste_at_before k (omega (arith, before, to))) (λ behind. get_or-paste_at_behind k (omega (arith, behind, from))) side))
-      ∙ ap (λ (l : List ℕ). number_at f.at f.width bytes ∷ l) (numbers_at-paste_at fields rest)
-    where
-      side : (f.at + f.width ≤ at) ⊎ (at + length new ≤ f.at)
-      side = grind (arith, nat_tests)
-
-      rest : is_apart at (length new) fields ≡ true
-      rest = grind (arith, nat_tests)
-
   pub get_or-paste_at_outside : (i : ℕ) → IsOutsideSpan at (length new) i → get_or (paste_at at new bytes) i 0 ≡ get_or bytes i 0
   get_or-paste_at_outside i out = elim (cases_lt i at) [
     | inl before ↦ get_or-paste_at_before i before
@@ -60,6 +45,9 @@ module _ (at : ℕ) (new bytes : List ℕ) (fits : at + length new ≤ length by
 
   pub bytes_at-paste_at_apart : (from count : ℕ) → (from + count ≤ at) ⊎ (at + length new ≤ from) → bytes_at from count (paste_at at new bytes) ≡ bytes_at from count bytes
   bytes_at-paste_at_apart from count side = bytes_at-same from count (paste_at at new bytes) bytes length-paste_at (λ k low high. ⊎_elim (λ before. get_or-paste_at_before k (omega (arith, before, high))) (λ behind. get_or-paste_at_behind k (omega (arith, behind, low))) side)
+
+  pub number_at-paste_at_apart : (from width : ℕ) → (from + width ≤ at) ⊎ (at + length new ≤ from) → number_at from width (paste_at at new bytes) ≡ number_at from width bytes
+  number_at-paste_at_apart from width side = number_at-same from width (paste_at at new bytes) bytes (λ k low high. ⊎_elim (λ before. get_or-paste_at_before k (omega (arith, before, high))) (λ behind. get_or-paste_at_behind k (omega (arith, behind, low))) side)
 
 pub put_mid_pastes : (at k : ℕ) (bytes new given : List ℕ) → k ≡ length given → new ≡ given → put_mid at k bytes new ≡ paste_at at given bytes
 unfolding paste_at

@@ -1,12 +1,12 @@
 -- The laws of the super's part as a whole.
-use Rattle.std.proofs.Common.{◌≡◌, ◌≤◌, ◌+◌, ℕ, List, take, refl, ◌∙◌, ap, arith}
+use Rattle.std.proofs.Common.{◌≡◌, ◌≤◌, ℕ, List, take, refl, sym, ◌∙◌, ap, arith}
 use Rattle.std.specs.Prelude.{slice_index}
-use Rattle.o2_ondisk.specs.Fields.{numbers_at, bytes_at}
+use Rattle.o2_ondisk.specs.Number.{number_at}
+use Rattle.o2_ondisk.specs.Fields.{put_at, numbers_at, bytes_at}
 use Rattle.o2_ondisk.specs.Super.{super_of, super_number_fields}
 use Rattle.o2_ondisk.specs.declared.superblock.Super.{Super}
-use Rattle.o2_ondisk.specs.declared.superblock.DxSeed.{DxSeed}
 use Rattle.o2_ondisk.proofs.NumberLaws.{bytes_at-take}
-use Rattle.o2_ondisk.proofs.TableLaws.{numbers_at-take}
+use Rattle.o2_ondisk.proofs.TableLaws.{low_first, numbers_at-take}
 
 -- a part of its numbers and its runs of bytes
 abbrev pub super_from : List ℕ → List ℕ → List ℕ → List ℕ → Super
@@ -45,7 +45,10 @@ super_of-is bytes numbers label uuid cluster_info same_numbers same_label same_u
 pub super_of-take : (n : ℕ) (bytes : List ℕ) → 200 ≤ n → super_of (take n bytes) ≡ super_of bytes
 super_of-take n bytes within =
     super_of-is (take n bytes) (numbers_at super_number_fields bytes) (bytes_at 0x50 64 bytes) (bytes_at 0x90 16 bytes) (bytes_at 0xa0 24 bytes)
-    (numbers_at-take 0 super_number_fields 200 n bytes refl within)
+    (numbers_at-take number_at put_at low_first 0 super_number_fields 200 n bytes refl within)
     (bytes_at-take 0x50 64 n bytes (omega arith))
     (bytes_at-take 0x90 16 n bytes (omega arith))
     (bytes_at-take 0xa0 24 n bytes (omega arith))
+
+pub super_of-same : (xs ys : List ℕ) → take 200 xs ≡ take 200 ys → super_of xs ≡ super_of ys
+super_of-same xs ys same = sym (super_of-take 200 xs (omega arith)) ∙ ap super_of same ∙ super_of-take 200 ys (omega arith)

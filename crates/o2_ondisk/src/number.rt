@@ -1,8 +1,8 @@
-// Numbers among bytes, the lowest byte first.
+// Numbers among bytes.
 ghost use Rattle.std.specs.Prelude.{◌≡◌, ◌+◌, ◌≤◌, ◌^◌, ◌<◌, length};
-ghost use Rattle.o2_ondisk.specs.Number.{number_at};
+ghost use Rattle.o2_ondisk.specs.Number.{number_at, big_number_at};
 
-use byteorder::{ByteOrder, LittleEndian};
+use byteorder::{BigEndian, ByteOrder, LittleEndian};
 
 /// The number of one byte at `at`.
 #[tactic(auto, unfolding(crate::specs::Number::number_at))]
@@ -38,6 +38,33 @@ pub fn u64_at(bytes: &[u8], at: usize) -> u64
     ensures { result ≡ number_at at 8 bytes.now }
 {
     LittleEndian::read_u64(&bytes[at..])
+}
+
+/// The number of two bytes at `at`, a `__be16`.
+#[tactic(auto, unfolding(crate::specs::Number::big_number_at))]
+pub fn big_u16_at(bytes: &[u8], at: usize) -> u16
+    requires { at + 2 ≤ length bytes.now }
+    ensures { result ≡ big_number_at at 2 bytes.now }
+{
+    BigEndian::read_u16(&bytes[at..])
+}
+
+/// The number of four bytes at `at`, a `__be32`.
+#[tactic(auto, unfolding(crate::specs::Number::big_number_at))]
+pub fn big_u32_at(bytes: &[u8], at: usize) -> u32
+    requires { at + 4 ≤ length bytes.now }
+    ensures { result ≡ big_number_at at 4 bytes.now }
+{
+    BigEndian::read_u32(&bytes[at..])
+}
+
+/// The number of eight bytes at `at`, a `__be64`.
+#[tactic(auto, unfolding(crate::specs::Number::big_number_at))]
+pub fn big_u64_at(bytes: &[u8], at: usize) -> u64
+    requires { at + 8 ≤ length bytes.now }
+    ensures { result ≡ big_number_at at 8 bytes.now }
+{
+    BigEndian::read_u64(&bytes[at..])
 }
 
 /// The same number in the type that a table of fields takes.

@@ -9,7 +9,7 @@ use crate::{Field, Layout, array_at, put_array, put_numbers};
 /// Where the part begins in its dinode.
 pub const SUPER_AT: usize = 0xc0;
 
-/// Where the part's last field ends, in bytes from the part's begin.
+/// Where the part's last field ends, in bytes from the part's beginning.
 pub const SUPER_SIZE: usize = 0xc8;
 
 /// Where the label stands in the part.
@@ -18,7 +18,7 @@ pub const LABEL_AT: usize = 0x50;
 /// Where the uuid stands in the part.
 pub const UUID_AT: usize = 0x90;
 
-/// Where the cluster stack's name and its cluster's name stand in the part.
+/// Where the cluster stack's description stands in the part.
 pub const CLUSTER_INFO_AT: usize = 0xa0;
 
 /// The numbers of the part, those of the directory hash's seed as three.
@@ -55,28 +55,30 @@ pub struct Super {
     pub feature_compat: u32,
     pub feature_incompat: u32,
     pub feature_ro_compat: u32,
-    /// A block.
+    /// The block of the root directory's dinode.
     pub root_blkno: u64,
-    /// A block.
+    /// The block of the system directory's dinode.
     pub system_dir_blkno: u64,
     /// The power of two that is a block's size in bytes.
     pub blocksize_bits: u32,
     /// The power of two that is a cluster's size in bytes.
     pub clustersize_bits: u32,
+    /// How many nodes can have the volume mounted at a time.
     pub max_slots: u16,
     pub uuid_hash: u32,
-    /// A block.
+    /// The block of the global bitmap's first group descriptor.
     pub first_cluster_group: u64,
     /// The volume's name, filled up with NUL.
     pub label: [u8; 64],
     pub uuid: [u8; 16],
+    /// A `struct ocfs2_cluster_info`: the cluster stack's name, its flags and the cluster's name.
     pub cluster_info: [u8; 24],
-    /// In bytes.
+    /// The room for attributes at an inode's end, in bytes.
     pub xattr_inline_size: u16,
     pub dx_seed: DxSeed,
 }
 
-/// The fields of a part. `block` begins where the part does, `SUPER_AT` behind its dinode's begin.
+/// The fields of a part. `block` begins where the part does, `SUPER_AT` bytes into its dinode.
 pub fn read_super(block: &[u8]) -> Super
     requires { SUPER_SIZE ≤ length block.now }
     ensures { result ≡ super_of block.now }
@@ -160,14 +162,100 @@ pub fn write_label(block: &mut [u8], label: &[u8; 64])
     put_array(block, LABEL_AT, label);
 }
 
-/// A law: no field of the part reaches over another, and the last one ends where the part does.
+/// A law: no field of the part reaches over another, and each ends within the part.
 pub fn fields_are_apart()
-    ensures { IsTrue (is_disjoint 0 super_fields SUPER_SIZE) }
-{
-}
+    ensures apart { IsTrue (is_disjoint 0 super_fields 0xc8) }
+    ensures size { SUPER_SIZE ≡ 0xc8 }
+{}
 
-/// A law: the part's fields lie in the first 512 bytes of its block.
+/// A law: the part's fields lie in the first 512 bytes of their block.
 pub fn fields_lie_in_first_sector()
-    ensures { (block : List ℕ) → super_of (drop SUPER_AT (take 512 block)) ≡ super_of (drop SUPER_AT block) }
-{
+    ensures first { (block : List ℕ) → super_of (drop 0xc0 (take 512 block)) ≡ super_of (drop 0xc0 block) }
+    ensures begins { SUPER_AT ≡ 0xc0 }
+{}
+
+#[cfg(test)]
+mod tests {
+    use super::*;
+
+    // Each byte of a part is its own place, and eight bytes follow the part.
+    fn numbered() -> [u8; 208] {
+        let mut block = [0; 208];
+        for place in 0..208u8 {
+            block[usize::from(place)] = place;
+        }
+        block
+    }
+
+    // What such a part says, written out from the places of the format.
+    fn numbered_super() -> Super {
+        let block = numbered();
+        let mut label = [0; 64];
+        label.copy_from_slice(&block[80..144]);
+        let mut uuid = [0; 16];
+        uuid.copy_from_slice(&block[144..160]);
+        let mut cluster_info = [0; 24];
+        cluster_info.copy_from_slice(&block[160..184]);
+        Super {
+            feature_compat: 0x1f1e1d1c,
+            feature_incompat: 0x23222120,
+            feature_ro_compat: 0x27262524,
+            root_blkno: 0x2f2e2d2c2b2a2928,
+            system_dir_blkno: 0x3736353433323130,
+            blocksize_bits: 0x3b3a3938,
+            clustersize_bits: 0x3f3e3d3c,
+            max_slots: 0x4140,
+            uuid_hash: 0x47464544,
+            first_cluster_group: 0x4f4e4d4c4b4a4948,
+            label,
+            uuid,
+            cluster_info,
+            xattr_inline_size: 0xb9b8,
+            dx_seed: DxSeed {
+                first: 0xbfbebdbc,
+                second: 0xc3c2c1c0,
+                third: 0xc7c6c5c4,
+            },
+        }
+    }
+
+    // Places of the part that no field has: the revision and check data, and the gaps.
+    fn is_unused(place: usize) -> bool {
+        place < 0x1c
+            || place == 0x42
+            || place == 0x43
+            || place == 0xba
+            || place == 0xbb
+            || place >= 0xc8
+    }
+
+    #[test]
+    fn reads_and_writes_each_field(rt: HostRuntime) {
+        let block = numbered();
+        assert_eq!(rt; read_super(&block), numbered_super());
+
+        let mut written = [0xee; 208];
+        write_super(&mut written, &numbered_super());
+        assert_eq!(rt; read_super(&written), numbered_super());
+        for place in 0..208 {
+            let want = if is_unused(place) { 0xee } else { block[place] };
+            assert_eq!(rt; written[place], want, "at {place}");
+        }
+    }
+
+    #[test]
+    fn writes_the_label_alone(rt: HostRuntime) {
+        let block = numbered();
+        let mut written = numbered();
+        write_label(&mut written, &[0x61; 64]);
+        for place in 0..208 {
+            let want = if place >= 0x50 && place < 0x90 {
+                0x61
+            } else {
+                block[place]
+            };
+            assert_eq!(rt; written[place], want, "at {place}");
+        }
+        assert_eq!(rt; read_super(&written).label, [0x61; 64]);
+    }
 }

@@ -1,6 +1,8 @@
 use Rattle.std.proofs.Common.{arith, ap, ◌∙◌, length, List, ℕ, get_or}
-use Rattle.o2_ondisk.specs.Fields.{numbers_at, bytes_at}
-use Rattle.o2_ondisk.proofs.PasteLaws.{put_mid_pastes, bytes_at-paste_at, numbers_at-paste_at, bytes_at-paste_at_apart, get_or-paste_at_outside}
+use Rattle.o2_ondisk.specs.Number.{number_at}
+use Rattle.o2_ondisk.specs.Fields.{put_at, numbers_at, bytes_at}
+use Rattle.o2_ondisk.proofs.PasteLaws.{put_mid_pastes, bytes_at-paste_at, bytes_at-paste_at_apart, get_or-paste_at_outside}
+use Rattle.o2_ondisk.proofs.TableLaws.{low_first, numbers_at-paste_at}
 use Rattle.o2_ondisk.proofs.layout.put_bytes.Goals as goal
 
 pub returns-clause-put : goal.returns-clause-put
@@ -10,7 +12,7 @@ pub returns-clause-back : goal.returns-clause-back
 returns-clause-back c = ap (bytes_at c.args.at (length c.args.new.now)) (returns-clause-put c) ∙ bytes_at-paste_at c.args.at c.args.new.now c.args.block.now c.requires
 
 pub returns-clause-numbers : goal.returns-clause-numbers
-returns-clause-numbers c fields apart = ap (numbers_at fields) (returns-clause-put c) ∙ numbers_at-paste_at c.args.at c.args.new.now c.args.block.now c.requires fields apart
+returns-clause-numbers c fields apart = ap (numbers_at fields) (returns-clause-put c) ∙ numbers_at-paste_at number_at put_at low_first c.args.at c.args.new.now c.args.block.now c.requires fields apart
 
 pub returns-clause-others : goal.returns-clause-others
 returns-clause-others c from count side = ap (bytes_at from count) (returns-clause-put c) ∙ bytes_at-paste_at_apart c.args.at c.args.new.now c.args.block.now c.requires from count side

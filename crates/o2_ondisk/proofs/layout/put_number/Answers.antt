@@ -1,8 +1,6 @@
 use Rattle.std.proofs.Common.{arith}
-use Rattle.o2_ondisk.proofs.TableLaws.{put_mid_is, low_of}
+use Rattle.o2_ondisk.proofs.NumberPuts.{put_mid_is}
 use Rattle.o2_ondisk.proofs.layout.put_number.Goals as goal
 
 pub returns : goal.returns
-returns c =
-    put_mid_is c.args.at c.args.width _ c.args.value c.args.block.now c.copy_from_slice.new.self c.requires.width (omega arith)
-    (low_of c.args.width c.args.value c.copy_from_slice.new.self c.to_le_bytes.result c.copy_from_slice.ensures.after c.to_le_bytes.ensures)
+returns c = put_mid_is c.args.at c.args.width _ c.args.value c.args.block.now c.copy_from_slice.new.self c.to_le_bytes.result c.requires.width (omega arith) c.copy_from_slice.ensures.after c.to_le_bytes.ensures

@@ -1,4 +1,4 @@
-use Rattle.std.proofs.Common.{◌≡◌, ◌∙◌, inl, inr, arith, refl}
+use Rattle.std.proofs.Common.{◌≡◌, ◌∙◌, inl, arith, refl}
 use Rattle.o2_ondisk.specs.Fields.{numbers_at, bytes_at}
 use Rattle.o2_ondisk.specs.Super.{super_numbers, super_number_fields}
 use Rattle.o2_ondisk.proofs.SuperLaws.{super_of-is}
