@@ -12,5 +12,4 @@ pub fn label_alone_changes()
         → (i : ℕ) → i < 64 → byte (with_label bits field I) (512 * super_sector bits + label_place + i) ≡ slice_index field i }
     ensures others { (bits : ℕ) (field : List ℕ) → length field ≡ 64 → (I : Image) → IsImage I → super_sector bits < length I
         → (i : ℕ) → (i < 512 * super_sector bits + label_place) ⊎ (512 * super_sector bits + label_place + 64 ≤ i) → byte (with_label bits field I) i ≡ byte I i }
-{
-}
+{}

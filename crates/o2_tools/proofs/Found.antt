@@ -47,11 +47,11 @@ module _ (I : Image) (k : ℕ) (left : find (has_super I) block_sizes ≡ find (
   unfolding superblock_bits
   found_here within None some match = cc
   found_here within (Some s) some match = (
-      left
-      ∙ ap (find (has_super I)) (drop_more block_sizes k 0 within)
-      ∙ ap (λ (b : Bool). cond b (Some (get_or block_sizes k 0)) (find (has_super I) (drop (k + 1) block_sizes))) match.0
-      ∙ ap (λ (b : ℕ). Some b) (sym match.1),
-      match.2,
+    left
+        ∙ ap (find (has_super I)) (drop_more block_sizes k 0 within)
+        ∙ ap (λ (b : Bool). cond b (Some (get_or block_sizes k 0)) (find (has_super I) (drop (k + 1) block_sizes))) match.0
+        ∙ ap (λ (b : ℕ). Some b) (sym match.1),
+    match.2,
   )
 
   -- none is left

@@ -3,7 +3,8 @@ use Rattle.std.proofs.Common.{◌≡◌, ◌≢◌, ◌⊎◌, inl, inr, ⊎_eli
 use Rattle.std.proofs.lemmas.Bool.Decides.{nat_tests}
 use Rattle.std.proofs.lemmas.List.{drop_more, drop_all}
 use Rattle.std.specs.declared.alloc.Global.{Global}
-use Rattle.o2_tools.specs.declared.cause.Cause.TheVariants.{Usage}
+use Rattle.o2_tools.specs.declared.cause.Cause.{Cause}
+use Rattle.o2_tools.specs.declared.cause.Cause.TheVariants.{Fine, Usage, Later, NotOcfs2, Range, DeviceFault, NoMemory}
 use Rattle.o2_tools.specs.CommandLine.{Words, texts, IsDevice, IsLabelLine, IsLine, Begins, LeavesAt, IsFirst, AreFirst, IsNotBuilt, RefusesWords}
 
 -- texts with other letters at this place are not the same
@@ -110,44 +111,92 @@ label_is_option = record {
 
 -- ---- the places
 pub usage_none : RefusesWords [] (Usage 0)
-usage_none = (no_word, record { within = omega arith; begins = begins_none; leaves = λ h. absurd (omega (arith, h)) })
+usage_none = (
+  no_word,
+  record {
+    no_line = λ line. (let e = line.1.1.form in cc e);
+    within = omega arith;
+    begins = begins_none;
+    leaves = λ h. absurd (omega (arith, h));
+  },
+)
 
 pub usage_tool : (tool : List ℕ) (rest : Words) → IsNoTool tool → RefusesWords (tool ∷ rest) (Usage 0)
-usage_tool tool rest other = (other_tool tool rest other, record {
-  within = omega arith;
-  begins = begins_none;
-  leaves = λ h begins. other.tunefs (let e = begins.1.1.1.form in cc e);
-})
+usage_tool tool rest other = (
+  other_tool tool rest other,
+  record {
+    no_line = λ line. other.tunefs (let e = line.1.1.form in cc e);
+    within = omega arith;
+    begins = begins_none;
+    leaves = λ h begins. other.tunefs (let e = begins.1.1.1.form in cc e);
+  },
+)
 
 pub usage_no_option : RefusesWords (tunefs ∷ []) (Usage 1)
-usage_no_option = (no_option, record { within = omega arith; begins = begins_tool; leaves = λ h. absurd (omega (arith, h)) })
+usage_no_option = (
+  no_option,
+  record {
+    no_line = λ line. (let e = line.1.1.form in cc e);
+    within = omega arith;
+    begins = begins_tool;
+    leaves = λ h. absurd (omega (arith, h));
+  },
+)
 
 pub usage_option : (option : List ℕ) (rest : Words) → IsOption option → option ≢ codes "-L" → RefusesWords (tunefs ∷ option ∷ rest) (Usage 1)
-usage_option option rest other unlike = (other_option option rest other, record {
-  within = omega arith;
-  begins = begins_tool;
-  leaves = λ h begins. unlike (let e = begins.1.1.1.form in cc e);
-})
+usage_option option rest other unlike = (
+  other_option option rest other,
+  record {
+    no_line = λ line. unlike (let e = line.1.1.form in cc e);
+    within = omega arith;
+    begins = begins_tool;
+    leaves = λ h begins. unlike (let e = begins.1.1.1.form in cc e);
+  },
+)
 
 pub usage_no_label : RefusesWords (tunefs ∷ label_option ∷ []) (Usage 2)
-usage_no_label = (other_option label_option [] label_is_option, record { within = omega arith; begins = begins_option; leaves = λ h. absurd (omega (arith, h)) })
+usage_no_label = (
+  other_option label_option [] label_is_option,
+  record {
+    no_line = λ line. (let e = line.1.1.form in cc e);
+    within = omega arith;
+    begins = begins_option;
+    leaves = λ h. absurd (omega (arith, h));
+  },
+)
 
 pub usage_no_device : (label : List ℕ) → RefusesWords (tunefs ∷ label_option ∷ label ∷ []) (Usage 3)
-usage_no_device label = (other_option label_option (label ∷ []) label_is_option, record { within = omega arith; begins = begins_label label; leaves = λ h. absurd (omega (arith, h)) })
+usage_no_device label = (
+  other_option label_option (label ∷ []) label_is_option,
+  record {
+    no_line = λ line. (let e = line.1.1.form in cc e);
+    within = omega arith;
+    begins = begins_label label;
+    leaves = λ h. absurd (omega (arith, h));
+  },
+)
 
 pub usage_device : (label device : List ℕ) (rest : Words) → (IsDevice device → ⊥) → RefusesWords (tunefs ∷ label_option ∷ label ∷ device ∷ rest) (Usage 3)
-usage_device label device rest unlike = (other_option label_option (label ∷ device ∷ rest) label_is_option, record {
-  within = omega arith;
-  begins = begins_label label;
-  leaves = λ h begins. unlike (let same : begins.1.1.0 ≡ device = (let e = begins.1.1.1.form in cc e) in subst IsDevice same begins.1.1.1.names);
-})
+usage_device label device rest unlike = (
+  other_option label_option (label ∷ device ∷ rest) label_is_option,
+  record {
+    no_line = λ line. unlike (let same : line.1.0 ≡ device = (let e = line.1.1.form in cc e) in subst IsDevice same line.1.1.names);
+    within = omega arith;
+    begins = begins_label label;
+    leaves = λ h begins. unlike (let same : begins.1.1.0 ≡ device = (let e = begins.1.1.1.form in cc e) in subst IsDevice same begins.1.1.1.names);
+  },
+)
 
 pub usage_more : (label device more : List ℕ) (rest : Words) → IsDevice device → RefusesWords (tunefs ∷ label_option ∷ label ∷ device ∷ more ∷ rest) (Usage 4)
-usage_more label device more rest is = (other_option label_option (label ∷ device ∷ more ∷ rest) label_is_option, record {
-  within = omega arith;
-  begins = begins_line label device is;
-  leaves = λ h begins. (let e = begins.1.1.1.form in cc e);
-})
+usage_more label device more rest is = (
+  other_option label_option (label ∷ device ∷ more ∷ rest) label_is_option,
+  record {
+    no_line = λ line. (let e = line.1.1.form in cc e);
+    within = omega arith;
+    begins = begins_line label device is;
+    leaves = λ h begins. (let e = begins.1.1.1.form in cc e);
+  },
+)
 
 -- ---- the words as strings
 -- the word at k, whose text is told, and those behind it
@@ -252,3 +301,14 @@ module _ (words : List (String Global)) (first : AreFirst tunefs label_option (t
     fifth_of more names =
         let at = word_at words 4 more in
         refused_as (tunefs ∷ label_option ∷ shown.0 ∷ device ∷ string_bytes at.0 ∷ texts (drop 5 words)) (texts words) 4 (shown.1 ∙ ap (λ (rest : Words). tunefs ∷ label_option ∷ shown.0 ∷ device ∷ rest) at.1) (usage_more shown.0 device (string_bytes at.0) (texts (drop 5 words)) names)
+
+-- a command line is not refused for its words
+pub line_stands : (words : Words) (cause : Cause) → IsLine words → RefusesWords words cause → ⊥
+line_stands words Later line built =
+    other_option label_option (line.0 ∷ line.1.0 ∷ []) label_is_option (subst IsNotBuilt line.1.1.form built)
+line_stands words (Usage place) line refused = refused.1.no_line line
+line_stands words Fine line refused = refused
+line_stands words NotOcfs2 line refused = refused
+line_stands words (Range which value) line refused = refused
+line_stands words DeviceFault line refused = refused
+line_stands words NoMemory line refused = refused

@@ -2,10 +2,13 @@
 use Rattle.std.proofs.Common.{◌≡◌, ◌⊎◌, inl, inr, ⊎_elim, ℕ, List, Bool, true, false, Option, Some, None, sym, ◌∙◌, ap}
 use Rattle.std.specs.Prelude.{if◌then◌else◌}
 use Rattle.std.specs.Option.{option_map_or, option_or}
+use Rattle.o2_ondisk.specs.declared.superblock.Super.{Super}
 use Rattle.o2_model.specs.Image.{Image}
 use Rattle.o2_model.specs.Superblock.{superblock, superblock_bits, cluster_count}
 use Rattle.o2_tools.specs.declared.cause.Cause.{Cause}
 use Rattle.o2_tools.specs.declared.cause.Cause.TheVariants.{Later, NotOcfs2}
+use Rattle.o2_tools.specs.SuperSector.{IsSuperSector}
+use Rattle.o2_tools.specs.declared.superblock.SuperSector.{SuperSector}
 use Rattle.o2_tools.specs.Answer.{is_for_later, volume_refusal, label_refusal, refusal_of, IsCauseFor}
 
 abbrev not_found : Option Cause
@@ -26,3 +29,10 @@ volume_first label I cause for = ⊎_elim (λ first. inl (ap (λ (o : Option Cau
 
 pub label_next : (label : List ℕ) (I : Image) → volume_refusal I ≡ None → refusal_of label I ≡ label_refusal label
 label_next label I none = ap (λ (o : Option Cause). option_or o (label_refusal label)) none
+
+-- the sector that was found, and what is read of it
+pub refusal_read : (I : Image) (s : SuperSector) (later : Bool) (part : Super) (clusters : ℕ) → (superblock_bits I ≡ Some s.bits) × IsSuperSector I s → ((J : Image) → IsSuperSector J s → part ≡ superblock J s.bits) → ((J : Image) → IsSuperSector J s → clusters ≡ cluster_count J s.bits)
+    → later ≡ is_for_later part clusters → volume_refusal I ≡ (if later then Some Later else None)
+refusal_read I s later part clusters found part_is clusters_are is =
+    refusal_found I s.bits later found.0
+    (is ∙ ap (λ (p : Super). is_for_later p clusters) (part_is I found.1) ∙ ap (λ (n : ℕ). is_for_later (superblock I s.bits) n) (clusters_are I found.1))

@@ -1,12 +1,13 @@
 -- A label in the superblock's sector.
-use Rattle.std.proofs.Common.{◌≡◌, ◌⊎◌, inl, inr, ℕ, ◌+◌, ◌≤◌, ◌<◌, List, ◌++◌, length, take, drop, replicate, refl, sym, ◌∙◌, ap, subst, arith, append-nil, length-drop}
+use Rattle.std.proofs.Common.{◌≡◌, ◌⊎◌, inl, inr, ℕ, ◌+◌, ◌≤◌, ◌<◌, List, ◌++◌, length, take, drop, replicate, refl, sym, ◌∙◌, ap, subst, arith, append-nil, length-drop, Option, Some}
+use Rattle.std.specs.Option.{option_map_or}
 use Rattle.std.proofs.lemmas.List.{take_all, drop_all, drop-drop, drop-replicate}
 use borrow.Rule.Slice.PartMut.{put_mid, post_of}
 use Rattle.o2_ondisk.specs.Fields.{paste_at, bytes_at}
 use Rattle.o2_ondisk.specs.declared.superblock.Super.{Super}
 use Rattle.o2_disk.specs.Image.{Image, IsImage, written}
-use Rattle.o2_model.specs.Superblock.{superblock, super_sector}
-use Rattle.o2_model.specs.Label.{label_field, with_label}
+use Rattle.o2_model.specs.Superblock.{superblock, superblock_bits, super_sector}
+use Rattle.o2_model.specs.Label.{label_field, with_label, relabelled}
 use Rattle.o2_model.proofs.SuperSector.{superblock-first}
 use Rattle.o2_model.proofs.Labels.{with_label-same, label_is_there, with_label-written}
 use Rattle.o2_tools.specs.SuperSector.{IsSuperSector}
@@ -40,3 +41,9 @@ module _ (I : Image) (s : SuperSector) (is : IsSuperSector I s) (is_image : IsIm
   -- the labelled sector is written
   pub written_is : (new : List ℕ) → new ≡ take 0xc0 s.bytes ++ paste_at 0x50 field (drop 0xc0 s.bytes) → written I s.at new ≡ with_label s.bits field I
   written_is new made = ap (λ (at : ℕ). written I at new) is.place ∙ with_label-written s.bits field whole I is_image inside s.bytes is.bytes new made
+
+-- the volume with a label, by the superblock that was found
+pub relabelled_is : (label field : List ℕ) (bits : ℕ) (I : Image) → superblock_bits I ≡ Some bits → field ≡ label_field label → with_label bits field I ≡ relabelled label I
+relabelled_is label field bits I found is =
+    ap (λ (f : List ℕ). with_label bits f I) is
+    ∙ sym (ap (λ (o : Option ℕ). option_map_or (λ b. with_label b (label_field label) I) o I) found)

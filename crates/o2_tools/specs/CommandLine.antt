@@ -29,9 +29,10 @@ IsLine words = (label : List ℕ) × ((device : List ℕ) × IsLabelLine label d
 abbrev pub Begins : Words → Type 0
 Begins words = (rest : Words) × IsLine (words ++ rest)
 
--- The words leave the grammar at this place: those before it begin a command line, and with the word there they don't.
--- Words that begin one and end too soon leave it behind their last.
+-- The words are no command line, and leave the grammar at this place: those before it begin a command line, and with
+-- the word there they don't. Words that end too soon leave it behind their last.
 pub record LeavesAt (words : Words) (place : ℕ) : Type 0 where
+  pub no_line : IsLine words → ⊥
   pub within : place ≤ length words
   pub begins : Begins (take place words)
   pub leaves : place < length words → Begins (take (place + 1) words) → ⊥

@@ -19,9 +19,15 @@ use std::alloc::Global;
 const LABEL_SIZE: usize = 64;
 
 /// Gives the volume on the device of that name another label.
-pub fn set_label<D: Disk>(alloc: Global, device: &mut D, name: &str, label: &str) -> Result<(), Cause>
+pub fn set_label<D: Disk>(
+    alloc: Global,
+    device: &mut D,
+    name: &str,
+    label: &str,
+) -> Result<(), Cause>
     ensures answer { (I : Image) → (D.state device.old).content ≡ Some I → MatchResult result (λ _. refusal_of label.now I ≡ None) (IsCauseFor (refusal_of label.now I)) }
     ensures length { IfErr result (λ cause. (which : _) (value : ℕ) → cause ≡ Cause.Range which value → label_refusal label.now ≡ Some cause) }
+    ensures no_usage { IfErr result (λ cause. (place : ℕ) → cause ≢ Cause.Usage place) }
     ensures fault { IsErrOf result Cause.DeviceFault → Rose (D.state device.old).faults (D.state device.new).faults }
     ensures done { OnOk result (Told (λ I J. J ≡ relabelled label.now I) (D.state device.old) (D.state device.new)) }
     ensures either { Told (λ I J. (J ≡ I) ⊎ (J ≡ relabelled label.now I)) (D.state device.old) (D.state device.new) }
@@ -49,6 +55,7 @@ fn open_volume<D: Disk>(alloc: Global, device: &mut D, name: &str) -> Result<Sup
     ensures writable { OnOk result (IsWritable (D.state device.new).attached) }
     ensures refused { IfErr result (λ cause. (I : Image) → (D.state device.old).content ≡ Some I → IsCauseFor (volume_refusal I) cause) }
     ensures no_range { IfErr result (λ cause. (which : _) (value : ℕ) → cause ≢ Cause.Range which value) }
+    ensures no_usage { IfErr result (λ cause. (place : ℕ) → cause ≢ Cause.Usage place) }
     ensures fault { IsErrOf result Cause.DeviceFault → Rose (D.state device.old).faults (D.state device.new).faults }
     ensures reads { ReadsOnly (D.state device.old) (D.state device.new) }
     ensures faults { OnOk result ((D.state device.new).faults ≡ (D.state device.old).faults) }

@@ -3,8 +3,9 @@
 
 mod cause;
 mod label;
+mod program;
 mod superblock;
 mod words;
 
 pub use cause::{Cause, Done, Which};
-pub use words::{LabelLine, read_words};
+pub use program::run;

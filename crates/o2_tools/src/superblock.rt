@@ -24,15 +24,22 @@ const BLOCK_BITS: [u32; 4] = [9, 10, 11, 12];
 
 // Incompatible features outside the profile.
 const HEARTBEAT_DEV: u32 = 0x2;
+
 const RESIZE_INPROG: u32 = 0x4;
+
 const LOCAL_MOUNT: u32 = 0x8;
+
 const TUNEFS_INPROG: u32 = 0x20;
+
 const META_ECC: u32 = 0x800;
+
 const UNKNOWN_INCOMPAT: u32 = 0xffff_0001;
 
 // Features that only forbid writing, outside the profile.
 const USRQUOTA: u32 = 0x2;
+
 const GRPQUOTA: u32 = 0x4;
+
 const UNKNOWN_RO_COMPAT: u32 = 0xffff_fff8;
 
 // The most clusters that a volume may have.
