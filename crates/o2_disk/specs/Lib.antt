@@ -1,3 +1,5 @@
+pub mod Calls
 pub mod Device
 pub mod Image
 pub mod Output
+pub mod Stored

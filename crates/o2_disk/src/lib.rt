@@ -1,10 +1,14 @@
 //! Disks and sinks: what their calls promise, what a crash may leave of a disk, and the disks and sinks themselves.
 #![tactic(auto)]
 
+mod call;
 mod disk;
+mod failing;
 mod sector;
 mod sink;
+mod sparse;
 
+pub use call::Call;
 pub use disk::{AttachFault, Disk, Failed, How, NoMemory};
 pub use sector::put_sector;
 pub use sink::Sink;
