@@ -4,11 +4,14 @@
 mod call;
 mod disk;
 mod failing;
+mod kept;
+mod mem_disk;
 mod sector;
 mod sink;
 mod sparse;
 
 pub use call::Call;
 pub use disk::{AttachFault, Disk, Failed, How, NoMemory};
+pub use mem_disk::MemDisk;
 pub use sector::put_sector;
 pub use sink::Sink;
