@@ -1,5 +1,5 @@
 // What a call leaves in the record, in the map and in a count.
-ghost use Rattle.std.specs.Prelude.{◌≡◌, ℕ, ◌+◌, ◌/◌, ◌%◌, ◌<◌, ◌≤◌, ◌^◌, [], ◌∷◌, ◌++◌, length, OnOk, OnErr, None, unwrap_or, IsTrue, IsFalse};
+ghost use Rattle.std.specs.Prelude.{◌≡◌, ℕ, ◌+◌, ◌-◌, ◌/◌, ◌%◌, ◌<◌, ◌≤◌, ◌^◌, min, [], ◌∷◌, ◌++◌, length, OnOk, OnErr, None, unwrap_or, IsTrue, IsFalse};
 ghost use Rattle.std.specs.Ordering.{nat_cmp};
 ghost use Rattle.std.specs.BTreeMap.{get};
 ghost use Rattle.o2_disk.specs.Device.{Rose};
@@ -17,6 +17,7 @@ use std::collections::BTreeMap;
 pub fn raise(count: &mut u64)
     ensures rose { Rose count.old count.new }
     ensures later { count.old ≤ count.new }
+    ensures next { count.new ≡ min (count.old + 1) (2 ^ 64 - 1) }
 {
     *count = count.saturating_add(1);
 }
