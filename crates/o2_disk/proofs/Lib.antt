@@ -1,5 +1,6 @@
 pub mod Copies
 pub mod Images
+pub mod Left
 pub mod Moments
 pub mod Noted
 pub mod Puts

@@ -14,7 +14,7 @@ use Rattle.o2_disk.specs.Calls.{Choices, newest, put_by, step, run, start, IsOut
 pub has_choice-append : (xs ys : List (List ℕ)) → 0 < length xs → 0 < length (xs ++ ys)
 has_choice-append xs ys some = omega (arith, length-append xs ys)
 
-has_choice-step : (c : Call) (may : Choices) → ((s : ℕ) → 0 < length (may s)) → (s : ℕ) → 0 < length (step c may s)
+pub has_choice-step : (c : Call) (may : Choices) → ((s : ℕ) → 0 < length (may s)) → (s : ℕ) → 0 < length (step c may s)
 has_choice-step Read may some s = some s
 has_choice-step (Write at bytes) may some s = has_choice-append (may s) (option_to_list (put_by (Write at bytes) s)) (some s)
 has_choice-step (Zeros at sectors) may some s = has_choice-append (may s) (option_to_list (put_by (Zeros at sectors) s)) (some s)

@@ -5,11 +5,13 @@ mod call;
 mod disk;
 mod failing;
 mod kept;
+mod maps;
 mod mem_disk;
 mod mem_sink;
 mod sector;
 mod sink;
 mod sparse;
+mod stopped;
 
 pub use call::Call;
 pub use disk::{AttachFault, Disk, Failed, How, NoMemory};
