@@ -5,14 +5,15 @@ use Rattle.std.proofs.lemmas.Bool.{cases_eq, cases_lt}
 use Rattle.std.proofs.Math.Seq.{get_or-append_seam}
 use Rattle.std.specs.Ordering.{nat_cmp, eq_by_cmp}
 use Rattle.std.specs.Option.{is_some}
-use Rattle.std.specs.List.{list_any}
+use Rattle.std.specs.List.{Contains, list_any}
 use Rattle.std.specs.BTreeMap.{BTreeMap, get}
-use Rattle.o2_disk.specs.Image.{zero_sector}
+use Rattle.o2_disk.specs.Image.{image_of, zero_sector}
 use Rattle.o2_disk.specs.declared.call.Call.{Call}
 use Rattle.o2_disk.specs.declared.call.Call.TheVariants.{Read, Write, Zeros, Sync, FailedSync}
 use Rattle.o2_disk.specs.Stored.{stored}
-use Rattle.o2_disk.specs.Calls.{Choices, newest, put_by, put_or_zeros, step, run, start, chosen}
+use Rattle.o2_disk.specs.Calls.{Choices, IsOutcome, newest, put_by, put_or_zeros, step, run, start, chosen}
 use Rattle.o2_disk.specs.Recorded.{some_choice, has_choice-step}
+use Rattle.o2_disk.proofs.Images.{length-image_of, sector-image_of}
 use Rattle.o2_disk.proofs.Puts.{run_more}
 
 -- a step of one sector
@@ -87,3 +88,15 @@ keys_step old new s rest all f is here others so_far q none = elim (cases_eq q s
   | inl same ↦ subst (λ (k : ℕ). stored new k ≡ f k) (sym same) here
   | inr apart ↦ others q apart ∙ so_far q (ap (λ (l : List ℕ). list_any (eq_by_cmp nat_cmp q) l) is ∙ later_key q s rest apart none)
 ]
+
+-- an image of choices is one that a crash may leave
+pub chosen_outcome : (n choice : ℕ) (base : BTreeMap ℕ (List ℕ)) (calls : List Call) → IsOutcome n (run (start base) calls) (image_of n (λ s. chosen choice s (run (start base) calls s)))
+chosen_outcome n choice base calls = record {
+  size = length-image_of n (λ s. chosen choice s (run (start base) calls s));
+  each = λ s h. subst (λ (v : List ℕ). Contains (run (start base) calls s) v) (sym (sector-image_of n (λ s. chosen choice s (run (start base) calls s)) s h)) (one_of choice s (run (start base) calls s) (some_choice base calls s));
+}
+  where
+    one_of : (choice s : ℕ) (xs : List (List ℕ)) → 0 < length xs → Contains xs (chosen choice s xs)
+    one_of choice s xs some =
+        let below : choice * (s + 1) % length xs < length xs = omega (arith, some) in
+        (choice * (s + 1) % length xs, below, get_or_default xs (choice * (s + 1) % length xs) (chosen choice s xs) [] below)

@@ -1,5 +1,8 @@
 -- A disk in memory that no call has reached yet.
-use Rattle.std.proofs.Common.{◌≡◌, ℕ, ◌+◌, ◌-◌, ◌<◌, ◌≤◌, List, [], ◌∷◌, length, get_or, Option, Some, None, unwrap_or, refl, sym, ◌∙◌, ap, subst, arith}
+use Rattle.std.proofs.Common.{◌≡◌, inl, inr, ℕ, ◌+◌, ◌-◌, ◌<◌, ◌≤◌, List, [], ◌∷◌, length, get_or, Option, Some, None, unwrap_or, refl, sym, ◌∙◌, ap, subst, arith}
+use Rattle.std.proofs.lemmas.Bool.{cases_lt}
+use Rattle.std.proofs.lemmas.Bool.Decides.{nat_tests}
+use Rattle.std.specs.Prelude.{nat_lt, if◌then◌else◌, min}
 use Rattle.std.specs.List.{Contains}
 use Rattle.std.specs.Ordering.{nat_cmp}
 use Rattle.std.specs.BTreeMap.{BTreeMap, get, IsEmpty}
@@ -50,8 +53,38 @@ stored_empty m empty s = grind (arith, empty)
 pub sound_empty : (m : BTreeMap ℕ (List ℕ)) → IsEmpty m → (s : ℕ) → IsSector (stored m s)
 sound_empty m empty s = subst IsSector (sym (stored_empty m empty s)) is_sector_zero
 
-pub zeros_empty : (n : ℕ) (m : BTreeMap ℕ (List ℕ)) → IsEmpty m → image_of n (λ s. stored m s) ≡ zeros n
+-- two maps that hold the same give the same image
+pub image_same : (n : ℕ) (f g : ℕ → List ℕ) → ((s : ℕ) → s < n → f s ≡ g s) → image_of n f ≡ image_of n g
+image_same n f g same = same_image (image_of n f) (image_of n g) (length-image_of n f ∙ sym (length-image_of n g)) (λ s h.
+    let k : s < n = omega (arith, h, length-image_of n f) in
+    sector-image_of n f s k ∙ same s k ∙ sym (sector-image_of n g s k))
+
+pub zeros_all : (n : ℕ) (m : BTreeMap ℕ (List ℕ)) → ((s : ℕ) → stored m s ≡ zero_sector) → image_of n (λ s. stored m s) ≡ zeros n
 unfolding zeros
-zeros_empty n m empty = same_image (image_of n (λ s. stored m s)) (image_of n (λ s. zero_sector)) (length-image_of n (λ s. stored m s) ∙ sym (length-image_of n (λ s. zero_sector))) (λ s h.
-    let k : s < n = omega (arith, h, length-image_of n (λ s. stored m s)) in
-    sector-image_of n (λ s. stored m s) s k ∙ stored_empty m empty s ∙ sym (sector-image_of n (λ s. zero_sector) s k))
+zeros_all n m empty = image_same n (λ s. stored m s) (λ s. zero_sector) (λ s h. empty s)
+
+-- ---- a disk of another size
+pub resized_same : (n old limit : ℕ) (base held new : BTreeMap ℕ (List ℕ)) (calls : List Call) (I : Image) → limit ≡ min old n → ((s : ℕ) → stored held s ≡ newest (run (start base) calls s)) → Some (shown old (run (start base) calls)) ≡ Some I
+    → ((s : ℕ) → stored new s ≡ (if nat_lt s limit then stored held s else zero_sector)) → image_of n (λ s. stored new s) ≡ image_of n (λ s. if nat_lt s (length I) then sector I s else zero_sector)
+resized_same n old limit base held new calls I is agrees told copied = image_same n (λ s. stored new s) (λ s. if nat_lt s (length I) then sector I s else zero_sector) (λ s h. elim (cases_lt s old) [
+  | inl inside ↦ copied s ∙ yes s (omega (arith, is, h, inside)) ∙ agrees s ∙ sym (sector-shown old (run (start base) calls) s inside) ∙ ap (λ (J : Image). sector J s) here ∙ sym (within s (omega (arith, size, inside)))
+  | inr past ↦ copied s ∙ no s (omega (arith, is, past)) ∙ sym (without s (omega (arith, size, past)))
+])
+  where
+    here : shown old (run (start base) calls) ≡ I
+    here = cc
+
+    size : length I ≡ old
+    size = ap length (sym here) ∙ length-shown old (run (start base) calls)
+
+    yes : (s : ℕ) → s < limit → (if nat_lt s limit then stored held s else zero_sector) ≡ stored held s
+    yes s h = grind (arith, nat_tests)
+
+    no : (s : ℕ) → limit ≤ s → (if nat_lt s limit then stored held s else zero_sector) ≡ zero_sector
+    no s h = grind (arith, nat_tests)
+
+    within : (s : ℕ) → s < length I → (if nat_lt s (length I) then sector I s else zero_sector) ≡ sector I s
+    within s h = grind (arith, nat_tests)
+
+    without : (s : ℕ) → length I ≤ s → (if nat_lt s (length I) then sector I s else zero_sector) ≡ zero_sector
+    without s h = grind (arith, nat_tests)

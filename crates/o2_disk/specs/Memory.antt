@@ -1,9 +1,9 @@
 -- What a contract knows of a disk in memory.
-use Rattle.std.specs.Prelude.{◌≡◌, ◌⊎◌, ℕ, ◌+◌, Bool, List, [], ◌∷◌, ◌++◌, length, true, false, Option, None, Result, OnOk, OnErr, IsErrOf, string_bytes}
+use Rattle.std.specs.Prelude.{◌≡◌, ◌⊎◌, ℕ, ◌+◌, Bool, List, [], ◌∷◌, ◌++◌, length, nat_lt, if◌then◌else◌, true, false, Option, None, Result, OnOk, OnErr, IsErrOf, string_bytes}
 use Rattle.std.specs.List.{Contains}
-use Rattle.o2_disk.specs.Image.{Image}
+use Rattle.o2_disk.specs.Image.{Image, sector, image_of, zero_sector}
 use Rattle.o2_disk.specs.Device.{DiskState, Rose}
-use Rattle.o2_disk.specs.Calls.{mem_state, moment_of, IsOutcome}
+use Rattle.o2_disk.specs.Calls.{mem_state, moment_of, IsOutcome, chosen}
 use Rattle.o2_disk.specs.declared.call.Call.{Call}
 use Rattle.o2_disk.specs.declared.disk.AttachFault.{AttachFault}
 use Rattle.o2_disk.specs.declared.disk.AttachFault.TheVariants.{NoMemory, Failed}
@@ -36,6 +36,14 @@ choices_after m k s = moment_of m.base m.calls.items k s
 -- what such a crash may leave
 abbrev pub may_leave_after : MemDisk → ℕ → Image → Type 0
 may_leave_after m k = IsOutcome m.sectors (moment_of m.base m.calls.items k)
+
+-- what a crash behind that call leaves at a choice
+abbrev pub stopped_image : MemDisk → ℕ → ℕ → Image
+stopped_image m call choice = image_of m.sectors (λ s. chosen choice s (choices_after m (call + 1) s))
+
+-- the image cut to that many sectors, or followed by zeros
+abbrev pub resized_image : ℕ → Image → Image
+resized_image sectors I = image_of sectors (λ s. if nat_lt s (length I) then sector I s else zero_sector)
 
 -- which calls are to fail stays as it was
 pub record SameFailing (old new : MemDisk) : Type 0 where

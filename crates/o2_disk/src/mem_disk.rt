@@ -10,7 +10,9 @@ ghost use Rattle.o2_disk.specs.Recorded.{counts_now, only_now, shown_is_outcome,
 
 use crate::failing::FailingCalls;
 use crate::kept::{keep, note, raise, sync_call};
+use crate::maps::Maps;
 use crate::sparse::copy_out;
+use crate::stopped::{first, stopped};
 use crate::{AttachFault, Call, Disk, Failed, How, NoMemory};
 use std::alloc::Global;
 use std::collections::BTreeMap;
@@ -37,13 +39,13 @@ pub struct MemDisk {
 }
 
 impl MemDisk {
-    ghost use Rattle.std.specs.Prelude.{◌≡◌, ◌<◌, ◌↔◌, [], ◌∷◌, ◌++◌, length, true, false, IfOk, IsOk, IsTrue, None, slice_index_or};
+    ghost use Rattle.std.specs.Prelude.{◌≡◌, ◌+◌, ◌<◌, [], ◌∷◌, ◌++◌, length, true, IfOk, IsOk, Some, slice_index_or};
     ghost use Rattle.std.specs.List.{Contains};
-    ghost use Rattle.o2_disk.specs.Image.{zeros, image_of};
+    ghost use Rattle.o2_disk.specs.Image.{Image, zeros, image_of};
     ghost use Rattle.o2_disk.specs.Device.{IsSettled};
     ghost use Rattle.o2_disk.specs.Calls.{is_read};
     ghost use Rattle.o2_disk.specs.declared.call.Call.TheVariants.{Read};
-    ghost use Rattle.o2_disk.specs.Memory.{disk_state, recorded, failing_calls, fails_attach, starved_calls, IsFresh, SameDisk};
+    ghost use Rattle.o2_disk.specs.Memory.{disk_state, recorded, failing_calls, fails_attach, starved_calls, IsFresh, SameDisk, may_leave_after, stopped_image, resized_image};
 
     /// A disk of zeros with nothing pending. It takes no memory, so it answers Ok.
     pub fn new(alloc: Global, sectors: u64) -> Result<MemDisk, NoMemory>
@@ -51,21 +53,15 @@ impl MemDisk {
         ensures fresh { IfOk result (λ m. IsFresh sectors m) }
         ensures succeeds { IsOk result }
     {
-        Ok(MemDisk::settled(alloc, sectors, BTreeMap::new(alloc), BTreeMap::new(alloc)))
+        Ok(MemDisk::settled(alloc, sectors, Maps::new(alloc)))
     }
 
-    // A disk that holds what both maps hold, with nothing pending.
-    fn settled(
-        alloc: Global,
-        sectors: u64,
-        base: BTreeMap<u64, [u8; 512]>,
-        held: BTreeMap<u64, [u8; 512]>,
-    ) -> MemDisk
-        requires same { (s : ℕ) → stored held s ≡ stored base s }
-        requires sound { (s : ℕ) → IsSector (stored held s) }
-        ensures settled { IsSettled (disk_state result) (image_of sectors (λ s. stored base s)) }
+    // A disk that holds what the maps hold, with nothing pending.
+    fn settled(alloc: Global, sectors: u64, maps: Maps) -> MemDisk
+        ensures settled { IsSettled (disk_state result) (image_of sectors (λ s. stored maps.base s)) }
         ensures fresh { IsFresh sectors result }
     {
+        let Maps { base, held } = maps;
         MemDisk {
             alloc,
             name: String::new(alloc),
@@ -79,6 +75,30 @@ impl MemDisk {
             faults: 0,
             starved: 0,
         }
+    }
+
+    /// A disk of that many sectors with this one's content, cut or followed by zeros, and with nothing pending. No call
+    /// of it has been made, and none is to fail.
+    pub fn resized(&self, alloc: Global, sectors: u64) -> Result<MemDisk, NoMemory>
+        ensures settled { IfOk result (λ m. (I : Image) → (disk_state self.now).content ≡ Some I → IsSettled (disk_state m) (resized_image sectors I)) }
+        ensures fresh { IfOk result (λ m. IsFresh sectors m) }
+    {
+        let maps = first(alloc, &self.held, self.sectors.min(sectors))?;
+        Ok(MemDisk::settled(alloc, sectors, maps))
+    }
+
+    /// The disk after a crash behind that past call, with nothing pending. A sector s that may then hold one of v
+    /// contents holds number `choice * (s + 1)` of them, the oldest being number 0, counted round; equal ones count
+    /// apart. No call of the new disk has been made, and none is to fail.
+    pub fn stopped_at(&self, alloc: Global, call: u64, choice: u64) -> Result<MemDisk, NoMemory>
+        requires { call < length (recorded self.now) }
+        ensures settled { IfOk result (λ m. IsSettled (disk_state m) (stopped_image self.now call choice)) }
+        ensures outcome { may_leave_after self.now (call + 1) (stopped_image self.now call choice) }
+        ensures fresh { IfOk result (λ m. IsFresh (disk_state self.now).sectors m) }
+    {
+        let calls = &self.calls[..call as usize + 1];
+        let maps = stopped(alloc, &self.base, &self.held, calls, choice)?;
+        Ok(MemDisk::settled(alloc, self.sectors, maps))
     }
 
     /// How many reads, writes and syncs took a number.

@@ -1,5 +1,5 @@
 // What a crash left of each sector.
-ghost use Rattle.std.specs.Prelude.{◌≡◌, ◌≢◌, ℕ, ◌+◌, ◌-◌, ◌*◌, ◌/◌, ◌%◌, ◌<◌, ◌≤◌, ◌^◌, length, Some, None, Option, IfOk, OnOk};
+ghost use Rattle.std.specs.Prelude.{◌≡◌, ◌≢◌, ℕ, ◌+◌, ◌-◌, ◌*◌, ◌/◌, ◌%◌, ◌<◌, ◌≤◌, ◌^◌, length, nat_lt, if◌then◌else◌, Some, None, Option, IfOk, OnOk};
 ghost use Rattle.std.specs.Ordering.{nat_cmp};
 ghost use Rattle.std.specs.BTreeMap.{get};
 ghost use Rattle.o2_disk.specs.Image.{zero_sector};
@@ -59,7 +59,12 @@ fn add_choice(choices: &mut Vec<[u8; 512]>, call: &Call, s: u64) -> Result<(), N
 }
 
 // What sector s may hold behind these calls, the oldest first.
-fn choices_of(alloc: Global, base: &BTreeMap<u64, [u8; 512]>, calls: &[Call], s: u64) -> Result<Vec<[u8; 512]>, NoMemory>
+fn choices_of(
+    alloc: Global,
+    base: &BTreeMap<u64, [u8; 512]>,
+    calls: &[Call],
+    s: u64,
+) -> Result<Vec<[u8; 512]>, NoMemory>
     ensures { IfOk result (λ v. v.items ≡ run (start base.now) calls.now s) }
 {
     let mut choices = Vec::new(alloc);
@@ -82,7 +87,13 @@ fn number_of(choice: u64, s: u64, v: usize) -> usize
 }
 
 // What is left of sector s.
-fn left_of(alloc: Global, base: &BTreeMap<u64, [u8; 512]>, calls: &[Call], s: u64, choice: u64) -> Result<[u8; 512], NoMemory>
+fn left_of(
+    alloc: Global,
+    base: &BTreeMap<u64, [u8; 512]>,
+    calls: &[Call],
+    s: u64,
+    choice: u64,
+) -> Result<[u8; 512], NoMemory>
     ensures { IfOk result (λ b. b ≡ chosen choice s (run (start base.now) calls.now s)) }
 {
     let choices = choices_of(alloc, base, calls, s)?;
@@ -90,7 +101,13 @@ fn left_of(alloc: Global, base: &BTreeMap<u64, [u8; 512]>, calls: &[Call], s: u6
 }
 
 /// What a crash behind these calls left, where no sector but those of the map `held` was ever anything but zeros.
-pub fn stopped(alloc: Global, base: &BTreeMap<u64, [u8; 512]>, held: &BTreeMap<u64, [u8; 512]>, calls: &[Call], choice: u64) -> Result<Maps, NoMemory>
+pub fn stopped(
+    alloc: Global,
+    base: &BTreeMap<u64, [u8; 512]>,
+    held: &BTreeMap<u64, [u8; 512]>,
+    calls: &[Call],
+    choice: u64,
+) -> Result<Maps, NoMemory>
     requires untouched { (s : ℕ) → get nat_cmp held.now s ≡ None → stored base.now s ≡ zero_sector }
     requires touched { (s k : ℕ) → get nat_cmp held.now s ≡ None → k < length calls.now → put_or_zeros calls.now k s ≡ zero_sector }
     ensures { IfOk result (λ m. (s : ℕ) → stored m.base s ≡ chosen choice s (run (start base.now) calls.now s)) }
@@ -99,6 +116,20 @@ pub fn stopped(alloc: Global, base: &BTreeMap<u64, [u8; 512]>, held: &BTreeMap<u
     for s in held.keys() {
         let bytes = left_of(alloc, base, calls, *s, choice)?;
         maps = maps.put(*s, bytes)?;
+    }
+    Ok(maps)
+}
+
+/// The first sectors of a map.
+pub fn first(alloc: Global, held: &BTreeMap<u64, [u8; 512]>, limit: u64) -> Result<Maps, NoMemory>
+    ensures { IfOk result (λ m. (s : ℕ) → stored m.base s ≡ (if nat_lt s limit then stored held.now s else zero_sector)) }
+{
+    let mut maps = Maps::new(alloc);
+    for s in held.keys() {
+        if *s >= limit {
+            continue;
+        }
+        maps = maps.put(*s, sector_at(held, *s))?;
     }
     Ok(maps)
 }

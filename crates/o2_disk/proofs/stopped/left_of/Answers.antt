@@ -12,4 +12,4 @@ pub returns : goal.returns
 returns c =
     let long : c.len.result ≡ length c.in_ok-choices.choices.items = omega arith in
     at_number c.args.choice c.args.s c.number_of.result c.in_ok-choices.choices.items (run (start c.args.base.now) c.args.calls.now c.args.s) c.index.result.now c.in_ok-choices.ensures
-        (c.number_of.ensures.value ∙ ap (λ (v : ℕ). c.args.choice * (c.args.s + 1) % v) long) (omega arith) c.index.ensures
+    (c.number_of.ensures.value ∙ ap (λ (v : ℕ). c.args.choice * (c.args.s + 1) % v) long) (omega arith) c.index.ensures
