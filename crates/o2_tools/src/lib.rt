@@ -5,6 +5,8 @@ mod cause;
 mod label;
 mod program;
 mod superblock;
+#[cfg(test)]
+mod tests;
 mod words;
 
 pub use cause::{Cause, Done, Which};

@@ -1,0 +1,259 @@
+// A label given to a small volume in memory, at every stop and with every call failing; and the words of command lines.
+ghost use Rattle.std.specs.Prelude.{◌≡◌, ◌<◌, ◌≤◌, ◌+◌, [], length, IfOk, Some};
+ghost use Rattle.o2_disk.specs.Memory.{disk_state, failing_calls, recorded};
+ghost use Rattle.o2_disk.specs.declared.disk.How.TheVariants.{ReadWrite};
+
+use crate::{Cause, Done, Which, run};
+use o2_disk::{Disk, How, MemDisk, MemSink};
+use std::alloc::Global;
+use std::process::Abort;
+use std::test::Fail;
+
+// The device of 64 MiB, its superblock, and where that is.
+const SECTORS: u64 = 131_072;
+
+const SUPER_SECTOR: u64 = 16;
+
+// The first sector of block 2: block bits and cluster bits 12, so many clusters, and the label `old`.
+fn super_sector(clusters: u32) -> [u8; 512] {
+    let mut sector = [0; 512];
+    sector[..8].copy_from_slice(b"OCFSV2\0\0");
+    sector[0x14..0x18].copy_from_slice(&clusters.to_le_bytes());
+    // the features 1550, and the one that forbids writing, 1
+    sector[0xe0] = 0x50;
+    sector[0xe1] = 0x15;
+    sector[0xe4] = 1;
+    sector[0xf8] = 12;
+    sector[0xfc] = 12;
+    sector[0x110..0x113].copy_from_slice(b"old");
+    sector
+}
+
+// A device of zeros but for this one sector.
+fn device(rt: &impl Abort, alloc: Global, at: u64, sector: &[u8; 512]) -> Result<MemDisk, Fail>
+    ensures { IfOk result (λ disk. failing_calls disk ≡ []) }
+{
+    let mut disk = MemDisk::new(alloc, SECTORS)?;
+    disk.attach(alloc, "made", How::ReadWrite)?;
+    assert!(rt; at < disk.sectors());
+    disk.write(at, sector)?;
+    disk.sync()?;
+    Ok(disk.resized(alloc, SECTORS)?)
+}
+
+fn tunefs(alloc: Global, disk: &mut MemDisk, words: &[&str]) -> Result<Done, Fail> {
+    let mut line = Vec::new(alloc);
+    for word in words {
+        line.push(String::from_str(alloc, word)?)?;
+    }
+    let mut other = MemDisk::new(alloc, 0)?;
+    let mut out = MemSink::new(alloc);
+    let random = [7; 24];
+    Ok(run(
+        alloc,
+        &line,
+        disk,
+        &mut other,
+        &mut out,
+        1_700_000_000,
+        &random,
+    ))
+}
+
+// The sector of the superblock, with zeros on either side of it.
+fn read_super(rt: &impl Abort, disk: &mut MemDisk) -> Result<[u8; 512], Fail> {
+    let mut around = [0; 1536];
+    assert!(rt; disk.sectors() > SUPER_SECTOR + 1);
+    disk.read(SUPER_SECTOR - 1, &mut around)?;
+    assert!(rt; around[..512].iter().all(|b| *b == 0));
+    assert!(rt; around[1024..].iter().all(|b| *b == 0));
+    let mut sector = [0; 512];
+    sector.copy_from_slice(&around[512..1024]);
+    Ok(sector)
+}
+
+// The sector with this label.
+fn with_label(sector: &[u8; 512], label: &[u8]) -> [u8; 512] {
+    let mut changed = *sector;
+    for (to, from) in changed[0x110..0x150].iter_mut().zip(label) {
+        *to = *from;
+    }
+    changed
+}
+
+// Each line of words, parted by bars, and the cause by which it is refused.
+const REFUSED: [(&str, Cause); 36] = [
+    ("", Cause::Usage { place: 0 }),
+    ("Tunefs", Cause::Usage { place: 0 }),
+    ("tunefs ", Cause::Usage { place: 0 }),
+    ("o2image", Cause::Usage { place: 0 }),
+    ("o2image|-r|disk|file", Cause::Usage { place: 0 }),
+    ("-L|vol|disk", Cause::Usage { place: 0 }),
+    ("mk|fs", Cause::Usage { place: 0 }),
+    ("|tunefs|-L|vol|disk", Cause::Usage { place: 0 }),
+    ("tunefs", Cause::Usage { place: 1 }),
+    ("tunefs|", Cause::Usage { place: 1 }),
+    ("tunefs|disk", Cause::Usage { place: 1 }),
+    ("tunefs|-l|vol|disk", Cause::Usage { place: 1 }),
+    ("tunefs|-LL|vol|disk", Cause::Usage { place: 1 }),
+    ("tunefs|--label|vol|disk", Cause::Usage { place: 1 }),
+    ("tunefs|vol|-L|disk", Cause::Usage { place: 1 }),
+    ("tunefs|-U|disk", Cause::Usage { place: 1 }),
+    ("tunefs|-L", Cause::Usage { place: 2 }),
+    ("tunefs|-L|vol", Cause::Usage { place: 3 }),
+    ("tunefs|-L|", Cause::Usage { place: 3 }),
+    ("tunefs|-L|-N", Cause::Usage { place: 3 }),
+    ("tunefs|-L|vol|", Cause::Usage { place: 3 }),
+    ("tunefs|-L|vol|-disk", Cause::Usage { place: 3 }),
+    ("tunefs|-L|vol|-", Cause::Usage { place: 3 }),
+    ("tunefs|-L|vol|-|disk", Cause::Usage { place: 3 }),
+    ("tunefs|-L|vol|disk|", Cause::Usage { place: 4 }),
+    ("tunefs|-L|vol|disk|disk", Cause::Usage { place: 4 }),
+    ("tunefs|-L|vol|disk|-N|4", Cause::Usage { place: 4 }),
+    ("mkfs", Cause::Later),
+    ("mkfs|-b|4096|disk", Cause::Later),
+    ("fsck|-n|-y|disk", Cause::Later),
+    ("debugfs|-R|ls /|disk", Cause::Later),
+    ("sample|1000|disk", Cause::Later),
+    ("tunefs|-N", Cause::Later),
+    ("tunefs|-N|4|disk", Cause::Later),
+    ("tunefs|-J|size=8M|disk", Cause::Later),
+    ("tunefs|-S|disk", Cause::Later),
+];
+
+#[test]
+fn refuses_words(rt: HostRuntime) -> Result<(), Fail> {
+    let alloc = rt.alloc();
+    let mut disk = device(&rt, alloc, SUPER_SECTOR, &super_sector(16_384))?;
+    let done = tunefs(alloc, &mut disk, &[])?;
+    assert_eq!(rt; (done.status, done.cause), (16, Cause::Usage { place: 0 }));
+    for (line, cause) in REFUSED {
+        let words: Vec<&str> = line.split('|').collect(alloc)?;
+        let done = tunefs(alloc, &mut disk, &words)?;
+        assert_eq!(rt; done.cause, cause, "{line}");
+        assert_eq!(rt;
+            done.status,
+            if cause == Cause::Later { 1 } else { 16 },
+            "{line}"
+        );
+    }
+    assert_eq!(rt; disk.calls(), 0);
+    Ok(())
+}
+
+#[test]
+fn labels_a_volume(rt: HostRuntime) -> Result<(), Fail> {
+    let alloc = rt.alloc();
+    let long = "a".repeat(alloc, 65)?;
+    // the clusters, the label, and the status and the cause that they give
+    for (clusters, label, status, cause) in [
+        (16_384, "vol", 0, Cause::Fine),
+        (16_384, "", 0, Cause::Fine),
+        (262_144, "vol", 0, Cause::Fine),
+        (16_384, &long[..64], 0, Cause::Fine),
+        (262_145, "vol", 1, Cause::Later),
+        (
+            16_384,
+            long.as_str(),
+            1,
+            Cause::Range {
+                which: Which::Label,
+                value: 65,
+            },
+        ),
+    ] {
+        let before = super_sector(clusters);
+        let mut disk = device(&rt, alloc, SUPER_SECTOR, &before)?;
+        let done = tunefs(alloc, &mut disk, &["tunefs", "-L", label, "disk"])?;
+        assert_eq!(rt; (done.status, done.cause), (status, cause), "{label}");
+        let mut field = [0; 64];
+        field[..label.len().min(64)].copy_from_slice(&label.as_bytes()[..label.len().min(64)]);
+        let after = if status == 0 {
+            with_label(&before, &field)
+        } else {
+            before
+        };
+        assert!(rt; read_super(&rt, &mut disk)? == after, "{label}");
+    }
+    Ok(())
+}
+
+#[test]
+fn finds_no_volume(rt: HostRuntime) -> Result<(), Fail> {
+    let alloc = rt.alloc();
+    let mut disk = MemDisk::new(alloc, SECTORS)?;
+    let done = tunefs(alloc, &mut disk, &["tunefs", "-L", "vol", "disk"])?;
+    assert_eq!(rt; (done.status, done.cause), (1, Cause::NotOcfs2));
+    // nor where the device ends within block 2
+    let mut short = device(&rt, alloc, SUPER_SECTOR, &super_sector(16_384))?.resized(alloc, 23)?;
+    let done = tunefs(alloc, &mut short, &["tunefs", "-L", "vol", "disk"])?;
+    assert_eq!(rt; (done.status, done.cause), (1, Cause::NotOcfs2));
+    Ok(())
+}
+
+#[test]
+fn stopped_at_any_call(rt: HostRuntime) -> Result<(), Fail> {
+    let alloc = rt.alloc();
+    let before = super_sector(16_384);
+    let after = with_label(&before, b"vol");
+    let mut disk = device(&rt, alloc, SUPER_SECTOR, &before)?;
+    let done = tunefs(alloc, &mut disk, &["tunefs", "-L", "vol", "disk"])?;
+    assert_eq!(rt; done.cause, Cause::Fine);
+    for call in 0..disk.calls() {
+        for choice in 0..8 {
+            let mut stopped = disk.stopped_at(alloc, call, choice)?;
+            let sector = read_super(&rt, &mut stopped)?;
+            assert!(rt; sector == before || sector == after, "{call} {choice}");
+        }
+    }
+    Ok(())
+}
+
+#[test]
+fn one_call_fails(rt: HostRuntime) -> Result<(), Fail> {
+    let alloc = rt.alloc();
+    let before = super_sector(16_384);
+    let after = with_label(&before, b"vol");
+    // four reads, a write and a sync
+    for call in 0..6 {
+        let mut disk = device(&rt, alloc, SUPER_SECTOR, &before)?;
+        disk.fail_at(call);
+        let done = tunefs(alloc, &mut disk, &["tunefs", "-L", "vol", "disk"])?;
+        assert_eq!(rt;
+            (done.status, done.cause),
+            (8, Cause::DeviceFault),
+            "{call}"
+        );
+        assert_eq!(rt; disk.calls(), call + 1);
+        let last = disk.calls() - 1;
+        for choice in 0..8 {
+            let mut stopped = disk.stopped_at(alloc, last, choice)?;
+            let sector = read_super(&rt, &mut stopped)?;
+            assert!(rt; sector == before || sector == after, "{call} {choice}");
+        }
+    }
+    let mut disk = device(&rt, alloc, SUPER_SECTOR, &before)?;
+    disk.fail_attach();
+    let done = tunefs(alloc, &mut disk, &["tunefs", "-L", "vol", "disk"])?;
+    assert_eq!(rt; (done.status, done.cause), (8, Cause::DeviceFault));
+    Ok(())
+}
+
+#[test]
+fn bounded_on_a_gibibyte(rt: HostRuntime) -> Result<(), Fail> {
+    let alloc = rt.alloc();
+    let made = device(&rt, alloc, SUPER_SECTOR, &super_sector(262_144))?;
+    let mut disk = made.resized(alloc, 1 << 21)?;
+    let done = tunefs(alloc, &mut disk, &["tunefs", "-L", "vol", "disk"])?;
+    assert_eq!(rt; done.cause, Cause::Fine);
+    // a read for each block size, one write and one sync
+    assert_eq!(rt; disk.calls(), 6);
+    for call in 0..disk.calls() {
+        assert_eq!(rt; disk.was_read(call), call < 4);
+    }
+    // the label is there: nothing is written
+    let done = tunefs(alloc, &mut disk, &["tunefs", "-L", "vol", "disk"])?;
+    assert_eq!(rt; done.cause, Cause::Fine);
+    assert_eq!(rt; disk.calls(), 10);
+    Ok(())
+}
