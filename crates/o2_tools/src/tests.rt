@@ -60,16 +60,18 @@ fn tunefs(alloc: Global, disk: &mut MemDisk, words: &[&str]) -> Result<Done, Fai
     ))
 }
 
-// The sector of the superblock, with zeros on either side of it.
-fn read_super(rt: &impl Abort, disk: &mut MemDisk) -> Result<[u8; 512], Fail> {
-    let mut around = [0; 1536];
-    assert!(rt; disk.sectors() > SUPER_SECTOR + 1);
-    disk.read(SUPER_SECTOR - 1, &mut around)?;
-    assert!(rt; around[..512].iter().all(|b| *b == 0));
-    assert!(rt; around[1024..].iter().all(|b| *b == 0));
+fn read_sector(rt: &impl Abort, disk: &mut MemDisk, at: u64) -> Result<[u8; 512], Fail> {
     let mut sector = [0; 512];
-    sector.copy_from_slice(&around[512..1024]);
+    assert!(rt; at < disk.sectors());
+    disk.read(at, &mut sector)?;
     Ok(sector)
+}
+
+// The sector of the superblock, where those on either side of it are zeros.
+fn read_super(rt: &impl Abort, disk: &mut MemDisk) -> Result<[u8; 512], Fail> {
+    assert!(rt; read_sector(rt, disk, SUPER_SECTOR - 1)? == [0; 512]);
+    assert!(rt; read_sector(rt, disk, SUPER_SECTOR + 1)? == [0; 512]);
+    read_sector(rt, disk, SUPER_SECTOR)
 }
 
 // The sector with this label.
