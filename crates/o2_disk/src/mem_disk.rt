@@ -39,7 +39,7 @@ pub struct MemDisk {
 }
 
 impl MemDisk {
-    ghost use Rattle.std.specs.Prelude.{◌≡◌, ◌+◌, ◌<◌, [], ◌∷◌, ◌++◌, length, true, IfOk, IsOk, Some, slice_index_or};
+    ghost use Rattle.std.specs.Prelude.{◌≡◌, ◌+◌, ◌<◌, ◌≤◌, [], ◌∷◌, ◌++◌, length, true, IfOk, IsOk, Some, slice_index_or};
     ghost use Rattle.std.specs.List.{Contains};
     ghost use Rattle.o2_disk.specs.Image.{Image, zeros, image_of};
     ghost use Rattle.o2_disk.specs.Device.{IsSettled};
@@ -121,6 +121,7 @@ impl MemDisk {
         requires { length (failing_calls self.old) < 64 }
         ensures there { Contains (failing_calls self.old) call → failing_calls self.new ≡ failing_calls self.old }
         ensures added { (Contains (failing_calls self.old) call → ⊥) → failing_calls self.new ≡ failing_calls self.old ++ call ∷ [] }
+        ensures count { length (failing_calls self.new) ≤ length (failing_calls self.old) + 1 }
         ensures attach { fails_attach self.new ≡ fails_attach self.old }
         ensures disk { SameDisk self.old self.new }
     {
@@ -281,3 +282,6 @@ impl Disk for MemDisk {
 
     ghost is_image = { λ m I is. is_image m.sectors m.base m.calls.items m.held m.few m.agrees m.sound I is };
 }
+
+#[cfg(test)]
+mod tests;
