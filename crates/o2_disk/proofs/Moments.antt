@@ -1,6 +1,6 @@
 -- How a run of device calls goes on.
-use Rattle.std.proofs.Common.{◌≡◌, ◌⊎◌, inl, inr, ⊎_elim, ℕ, ◌≤◌, List, refl, sym, ◌∙◌, ap, subst, arith, Some}
-use Rattle.o2_disk.specs.Image.{Image, Torn}
+use Rattle.std.proofs.Common.{inl, inr, ⊎_elim, ℕ, ◌≤◌, refl, sym, ◌∙◌, subst, arith}
+use Rattle.o2_disk.specs.Image.{Image}
 use Rattle.o2_disk.specs.Device.{DiskState, Follows, Only, IsSettled, Keeps, Elapses, LeavesOnly, Runs, ReadsOnly}
 
 pub started : (d : DiskState) (P : Image → Type 0) → ((X : Image) → d.left_since d.moment X → P X) → LeavesOnly d d P
