@@ -1,2 +1,7 @@
+pub mod Copies
 pub mod Images
+pub mod Left
 pub mod Moments
+pub mod Noted
+pub mod Puts
+pub mod Settled

@@ -1,6 +1,11 @@
+pub mod Calls
 pub mod Device
 pub mod FileState
 pub mod Image
+pub mod Memory
+pub mod MemoryOutput
 pub mod Output
+pub mod Recorded
 pub mod StdSinkState
+pub mod Stored
 pub mod Untold
