@@ -7,5 +7,6 @@ mod program;
 mod superblock;
 mod words;
 
-pub use cause::{Cause, Done, Which};
+pub use cause::{Cause, Done};
+pub use o2_view::Which;
 pub use program::run;
