@@ -1,5 +1,5 @@
 // Each call once, on a disk in memory.
-ghost use Rattle.std.specs.Prelude.{◌≡◌, ◌*◌, ◌<◌, ◌≤◌, ◌^◌, IfOk, IsErrOf, Some};
+ghost use Rattle.std.specs.Prelude.{◌≡◌, ◌*◌, ◌<◌, ◌≤◌, ◌^◌, length, IfOk, IsErrOf, Some};
 ghost use Rattle.o2_disk.specs.Device.{Rose, SameDevice, ReadsOnly};
 ghost use Rattle.o2_model.specs.Image.{Image, block_at};
 ghost use Rattle.o2_view.specs.Blocks.{sectors_per_block};
@@ -86,6 +86,7 @@ fn two_blocks<D: Disk, const N: usize>(
     requires b { b < view_blocks view.old }
     ensures bytes { IfOk result (λ both. (I : Image) → (view_state view.old).content ≡ Some I
         → (both.0 ≡ block_at (2 ^ view_bits view.old) I a) × (both.1 ≡ block_at (2 ^ view_bits view.old) I b)) }
+    ensures length { IfOk result (λ both. (length both.0 ≡ 2 ^ view_bits view.old) × (length both.1 ≡ 2 ^ view_bits view.old)) }
     ensures reads { ReadsOnly (view_state view.old) (view_state view.new) }
     ensures fault { IsErrOf result ViewFault.DeviceFault → Rose (view_state view.old).faults (view_state view.new).faults }
     ensures count { CallsAtMost 2 (view_state view.old) (view_state view.new) }
@@ -96,14 +97,18 @@ fn two_blocks<D: Disk, const N: usize>(
 }
 
 // Block 1, and the disk again.
-fn second_block<D: Disk>(alloc: Global, disk: &mut D) -> Result<Block, ViewFault>
-    requires { sectors_per_block 10 * 2 ≤ (D.state disk.old).sectors }
-    ensures bytes { IfOk result (λ block. (I : Image) → (D.state disk.old).content ≡ Some I → block ≡ block_at (2 ^ 10) I 1) }
+fn second_block<D: Disk>(alloc: Global, disk: &mut D, bits: u32) -> Result<Block, ViewFault>
+    requires least { 9 ≤ bits }
+    requires most { bits ≤ 12 }
+    requires within { sectors_per_block bits * 2 ≤ (D.state disk.old).sectors }
+    ensures bytes { IfOk result (λ block. (I : Image) → (D.state disk.old).content ≡ Some I → block ≡ block_at (2 ^ bits) I 1) }
+    ensures length { IfOk result (λ block. length block ≡ 2 ^ bits) }
     ensures reads { ReadsOnly (D.state disk.old) (D.state disk.new) }
     ensures device { SameDevice (D.state disk.old) (D.state disk.new) }
 {
-    let mut view = View::<D, 1>::new(alloc, disk, 10, 2)?;
-    view.block(1)
+    let mut view = View::<D, 1>::new(alloc, disk, bits, 2)?;
+    let block = view.block(1)?;
+    Ok(block)
 }
 
 #[test]
@@ -114,12 +119,13 @@ fn reads_blocks(rt: HostRuntime) -> Result<(), Fail> {
     disk.write(2, &[7; 512])?;
     disk.write(3, &[9; 512])?;
     disk.write(8, &[1; 512])?;
-    assert_eq!(rt; second_block(alloc, &mut disk)?.as_slice()[511..513], [7, 9]);
+    let block = second_block(alloc, &mut disk, 10)?;
+    assert_eq!(rt; &block.as_slice()[511..513], [7, 9].as_slice());
     assert_eq!(rt; disk.calls(), 4);
     let mut view = View::<MemDisk, 1>::new(alloc, &mut disk, 10, 4)?;
     let (first, second) = two_blocks(&mut view, 1, 3)?;
-    assert_eq!(rt; first.as_slice()[511..513], [7, 9]);
-    assert_eq!(rt; second.into_vec().as_slice(), [0; 1024]);
+    assert_eq!(rt; &first.as_slice()[511..513], [7, 9].as_slice());
+    assert_eq!(rt; second.into_vec().as_slice(), [0; 1024].as_slice());
     Ok(())
 }
 
@@ -130,7 +136,7 @@ fn lists_give_their_vectors_back(rt: HostRuntime) -> Result<(), Fail> {
     numbers.push(5u64)?;
     numbers.push(8)?;
     let list = Numbers::from(numbers);
-    assert_eq!(rt; list.as_slice(), [5, 8]);
+    assert_eq!(rt; list.as_slice(), [5, 8].as_slice());
     assert_eq!(rt; list.into_vec().len(), 2);
     let mut runs = Vec::new(alloc);
     let run = Run {
@@ -138,10 +144,10 @@ fn lists_give_their_vectors_back(rt: HostRuntime) -> Result<(), Fail> {
         clusters: 4,
     };
     runs.push(run)?;
-    assert_eq!(rt; Runs::from(runs).as_slice(), [run]);
+    assert_eq!(rt; Runs::from(runs).as_slice(), [run].as_slice());
     let mut bytes = Vec::new(alloc);
     bytes.push(1u8)?;
-    assert_eq!(rt; Bytes::from(bytes).into_vec().as_slice(), [1]);
+    assert_eq!(rt; Bytes::from(bytes).into_vec().as_slice(), [1].as_slice());
     Ok(())
 }
 
