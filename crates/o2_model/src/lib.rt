@@ -8,5 +8,5 @@ mod oddity;
 
 pub use check::Check;
 pub use geo::Geo;
-pub use laws::label_alone_changes;
+pub use laws::{geometry_tells_block_bits, label_alone_changes};
 pub use oddity::Oddity;
