@@ -1,3 +1,12 @@
+pub mod Bits
+pub mod Dinodes
+pub mod DirEntries
+pub mod DirTrailers
+pub mod ExtentBlocks
+pub mod ExtentListHeaders
+pub mod ExtentRecs
 pub mod Fields
+pub mod Kinds
 pub mod Number
+pub mod Signatures
 pub mod Super
