@@ -1,2 +1,4 @@
 pub mod Labels
 pub mod SuperSector
+pub mod Entries
+pub mod Readings
