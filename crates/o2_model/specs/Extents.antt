@@ -62,20 +62,20 @@ pub record Extents : Type 0 where
   pub leaves : List ExtentRec
   -- the extent blocks
   pub blocks : List ℕ
-  -- what the records of inner lists name, also where it is no extent block
-  pub named : List ℕ
+  -- the blocks that were looked at as extent blocks, also those that are none
+  pub seen : List ℕ
   -- the blocks whose lists are not well formed
   pub faults : List ℕ
 
 -- nothing was read yet
 abbrev pub nothing_read : Extents
-nothing_read = record { leaves = []; blocks = []; named = []; faults = [] }
+nothing_read = record { leaves = []; blocks = []; seen = []; faults = [] }
 
 abbrev pub with_leaf : Extents → ExtentRec → Extents
 with_leaf t r = record t { leaves = push t.leaves r }
 
-abbrev pub with_named : Extents → ℕ → Extents
-with_named t b = record t { named = push t.named b }
+abbrev pub with_seen : Extents → ℕ → Extents
+with_seen t b = record t { seen = push t.seen b }
 
 abbrev pub with_block : Extents → ℕ → Extents
 with_block t b = record t { blocks = push t.blocks b }
@@ -91,11 +91,10 @@ end_of leaves = fold (λ _ r. r.cpos + leaf_clusters r) 0 leaves
 unfoldable pub is_sound_header : ℕ → ExtentListHeader → Bool
 is_sound_header most h = nat_le h.count most && nat_le h.next_free_rec h.count && nat_le h.tree_depth 5
 
--- an extent block of this volume and of its own number, with a list of this depth
+-- the block is an extent block of this volume and of its own number, with a list of this depth
 unfoldable pub is_extent_block : Volume → ℕ → ℕ → Bool
 is_extent_block v depth b =
-    is_in_range v b
-    && (extent_block v b).signature.0 == extent_block_signature
+    (extent_block v b).signature.0 == extent_block_signature
     && (extent_block v b).blkno == b
     && (extent_block v b).fs_generation == v.geo.generation
     && (list_in_block v b).header.tree_depth == depth
@@ -109,13 +108,9 @@ is_sound_leaf v most_flags low r =
     && are_clusters_in_range v r.blkno (leaf_clusters r)
     && nat_le (leaf_flags r) most_flags
 
--- A record of an inner list: it begins at cluster `low` or later, and names an extent block with a list of this depth that
--- no earlier record of the tree names.
-unfoldable pub is_sound_inner : Volume → ℕ → ℕ → List ℕ → ExtentRec → Bool
-is_sound_inner v depth low named r =
-    nat_le low r.cpos
-    && not (among named r.blkno)
-    && is_extent_block v depth r.blkno
+-- A record of an inner list begins at cluster `low` or later, and names a block in range that was not looked at before.
+unfoldable pub names_new_block : Volume → ℕ → List ℕ → ExtentRec → Bool
+names_new_block v low seen r = nat_le low r.cpos && is_in_range v r.blkno && not (among seen r.blkno)
 
 -- an extent block is met, at fault where the head of its list is
 unfoldable pub with_met : Volume → ℕ → Extents → Extents
@@ -134,9 +129,10 @@ read_records v most_flags zero holder low (r ∷ rs) t =
     else if is_sound_leaf v most_flags (end_of t.leaves) r then read_records v most_flags zero holder low rs (with_leaf t r)
     else with_fault t holder
 read_records v most_flags (suc depth) holder low (r ∷ rs) t =
-    if is_sound_inner v depth low t.named r
-    then read_records v most_flags (suc depth) holder (r.cpos + 1) rs (read_records v most_flags depth r.blkno 0 (records_in_block v r.blkno) (with_met v r.blkno (with_named t r.blkno)))
-    else with_fault (with_named t r.blkno) holder
+    if not (names_new_block v low t.seen r) then with_fault t holder
+    else if is_extent_block v depth r.blkno
+    then read_records v most_flags (suc depth) holder (r.cpos + 1) rs (read_records v most_flags depth r.blkno 0 (records_in_block v r.blkno) (with_met v r.blkno (with_seen t r.blkno)))
+    else with_fault (with_seen t r.blkno) holder
 
 -- What is read from the list at byte `at` of block `holder` on, which has room for `most` records.
 abbrev pub read_list : Volume → ℕ → ℕ → ℕ → ℕ → Extents

@@ -11,7 +11,7 @@ pub fn leaf_records_are_those_below()
         → leaf_records v b ≡ leaves_below v (extent_list 0xc0 (v.at b)).header.tree_depth (extent_list 0xc0 (v.at b)).records }
 {}
 
-/// A law: where EXTENT holds, an inode's extents depend on its dinode and on the extent blocks that they name, and on no other block.
+/// A law: where EXTENT holds, an inode's extents depend on its dinode and on the extent blocks, and on no other block.
 pub fn other_blocks_keep_extents()
-    ensures { (v : Volume) (at : ℕ → List ℕ) (b : ℕ) → SameOn (b ∷ (extents v b).named) v at → (extents v b).faults ≡ [] → extents (over v at) b ≡ extents v b }
+    ensures { (v : Volume) (at : ℕ → List ℕ) (b : ℕ) → SameOn (b ∷ (extents v b).seen) v at → (extents v b).faults ≡ [] → extents (over v at) b ≡ extents v b }
 {}
