@@ -7,8 +7,8 @@ use Rattle.o2_model.specs.Image.{Image}
 use Rattle.o2_model.specs.Superblock.{superblock, superblock_bits, cluster_count}
 use Rattle.o2_tools.specs.declared.cause.Cause.{Cause}
 use Rattle.o2_tools.specs.declared.cause.Cause.TheVariants.{Later, NotOcfs2}
-use Rattle.o2_tools.specs.SuperSector.{IsSuperSector}
-use Rattle.o2_tools.specs.declared.superblock.SuperSector.{SuperSector}
+use Rattle.o2_view.specs.SuperSector.{IsSuperSector}
+use Rattle.o2_view.specs.declared.superblock.SuperSector.{SuperSector}
 use Rattle.o2_tools.specs.Answer.{is_for_later, volume_refusal, label_refusal, refusal_of, IsCauseFor}
 
 abbrev not_found : Option Cause

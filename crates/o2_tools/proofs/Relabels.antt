@@ -10,8 +10,8 @@ use Rattle.o2_model.specs.Superblock.{superblock, superblock_bits, super_sector}
 use Rattle.o2_model.specs.Label.{label_field, with_label, relabelled}
 use Rattle.o2_model.proofs.SuperSector.{superblock-first}
 use Rattle.o2_model.proofs.Labels.{with_label-same, label_is_there, with_label-written}
-use Rattle.o2_tools.specs.SuperSector.{IsSuperSector}
-use Rattle.o2_tools.specs.declared.superblock.SuperSector.{SuperSector}
+use Rattle.o2_view.specs.SuperSector.{IsSuperSector}
+use Rattle.o2_view.specs.declared.superblock.SuperSector.{SuperSector}
 
 -- the sector whose rest, from the superblock's part on, was given a label
 pub labelled_is : (bytes field new : List ℕ) → length bytes ≡ 512 → new ≡ paste_at 80 field (take 320 (drop 192 bytes)) → put_mid 192 320 bytes new ≡ take 192 bytes ++ paste_at 80 field (drop 192 bytes)

@@ -7,7 +7,7 @@ use Rattle.o2_model.specs.Superblock.{superblock, superblock_bits, cluster_count
 use Rattle.o2_model.specs.Features.{unsupported_in}
 use Rattle.o2_tools.specs.declared.cause.Cause.{Cause}
 use Rattle.o2_tools.specs.declared.cause.Cause.TheVariants.{Fine, Later, NotOcfs2, Range, DeviceFault, NoMemory}
-use Rattle.o2_tools.specs.declared.cause.Which.TheVariants.{Label}
+use Rattle.o2_view.specs.declared.which.Which.TheVariants.{Label}
 
 -- A volume that is not served yet: it has a feature outside the profile, or clusters of another size than 4 KiB to
 -- 1 MiB, or more than 1 GiB, and so may have copies of its superblock.

@@ -1,4 +1,3 @@
 pub mod Answer
 pub mod CommandLine
 pub mod Status
-pub mod SuperSector

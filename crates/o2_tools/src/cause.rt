@@ -3,13 +3,7 @@ ghost use Rattle.std.specs.Prelude.{◌≡◌};
 ghost use Rattle.o2_disk.specs.declared.disk.AttachFault.TheVariants.{NoMemory as NoMemoryForName, Failed as NotAttached};
 
 use o2_disk::{AttachFault, Failed};
-
-/// Which number of a command line is out of its range.
-#[derive(Clone, Copy, Debug, PartialEq, Eq)]
-pub enum Which {
-    /// A label's length in bytes.
-    Label,
-}
+use o2_view::Which;
 
 /// Why a run ended.
 #[derive(Clone, Copy, Debug, PartialEq, Eq)]

@@ -7,12 +7,13 @@ ghost use Rattle.o2_model.specs.Superblock.{superblock_bits, superblock, cluster
 ghost use Rattle.o2_model.specs.Label.{label_field, with_label, relabelled};
 ghost use Rattle.o2_tools.specs.Answer.{is_for_later, volume_refusal, label_refusal, refusal_of, IsCauseFor};
 ghost use Rattle.o2_tools.specs.Status.{IsRefusal};
-ghost use Rattle.o2_tools.specs.SuperSector.{IsSuperSector};
+ghost use Rattle.o2_view.specs.SuperSector.{IsSuperSector};
 
-use crate::cause::{Cause, Which};
-use crate::superblock::{SuperSector, find_super_sector, is_not_served};
+use crate::cause::Cause;
+use crate::superblock::is_not_served;
 use o2_disk::{Disk, Failed, How, put_sector};
 use o2_ondisk::{SUPER_AT, write_label};
+use o2_view::{SuperSector, Which, find_super_sector};
 use std::alloc::Global;
 
 // How many bytes a label's field has.

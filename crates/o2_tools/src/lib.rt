@@ -9,5 +9,6 @@ mod superblock;
 mod tests;
 mod words;
 
-pub use cause::{Cause, Done, Which};
+pub use cause::{Cause, Done};
+pub use o2_view::Which;
 pub use program::run;

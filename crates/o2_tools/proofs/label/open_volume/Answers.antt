@@ -1,8 +1,8 @@
 use Rattle.std.proofs.Common.{◌≡◌, ◌∙◌, inl, ap, subst, Bool, Option, Some, None}
 use Rattle.std.specs.Prelude.{MatchOption, if◌then◌else◌}
 use Rattle.o2_model.specs.Superblock.{superblock_bits}
-use Rattle.o2_tools.specs.SuperSector.{IsSuperSector}
-use Rattle.o2_tools.specs.declared.superblock.SuperSector.{SuperSector}
+use Rattle.o2_view.specs.SuperSector.{IsSuperSector}
+use Rattle.o2_view.specs.declared.superblock.SuperSector.{SuperSector}
 use Rattle.o2_tools.specs.declared.cause.Cause.TheVariants.{Later}
 use Rattle.o2_tools.proofs.Refusals.{refusal_read}
 use Rattle.o2_tools.proofs.label.open_volume.Goals as goal

@@ -1,6 +1,6 @@
 use Rattle.std.proofs.Common.{◌≡◌, ◌∙◌, sym, refl, arith, length}
-use Rattle.o2_tools.proofs.Found.{too_short, told, is_sector}
-use Rattle.o2_tools.proofs.superblock.read_super_sector.Goals as goal
+use Rattle.o2_view.proofs.Found.{too_short, told, is_sector}
+use Rattle.o2_view.proofs.superblock.read_super_sector.Goals as goal
 
 pub returns-then-sectors-per_block-clause-found : goal.returns-then-sectors-per_block-clause-found
 returns-then-sectors-per_block-clause-found g c I content =

@@ -2,7 +2,7 @@
 use Rattle.std.specs.Prelude.{◌≡◌, ◌≤◌, ℕ, ◌*◌}
 use Rattle.o2_model.specs.Image.{Image, bytes_from}
 use Rattle.o2_model.specs.Superblock.{super_sector}
-use Rattle.o2_tools.specs.declared.superblock.SuperSector.{SuperSector}
+use Rattle.o2_view.specs.declared.superblock.SuperSector.{SuperSector}
 
 -- the first sector of the image's block 2, where a block has 2 ^ bits bytes
 pub record IsSuperSector (I : Image) (sector : SuperSector) : Type 0 where

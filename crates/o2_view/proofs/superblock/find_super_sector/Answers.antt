@@ -1,7 +1,7 @@
 use Rattle.std.proofs.Common.{◌≡◌, ◌∙◌, sym, ap, arith, length, rules, ◌<◌, ◌≤◌}
 use Rattle.o2_model.specs.Superblock.{block_sizes}
-use Rattle.o2_tools.proofs.Found.{found_here, found_nowhere}
-use Rattle.o2_tools.proofs.superblock.find_super_sector.Goals as goal
+use Rattle.o2_view.proofs.Found.{found_here, found_nowhere}
+use Rattle.o2_view.proofs.superblock.find_super_sector.Goals as goal
 
 pub returns-then-is_some-clause-found : goal.returns-then-is_some-clause-found
 returns-then-is_some-clause-found g c I content =

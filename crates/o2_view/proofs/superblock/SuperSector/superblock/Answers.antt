@@ -1,7 +1,7 @@
 use Rattle.std.proofs.Common.{◌∙◌, drop, arith}
 use Rattle.o2_ondisk.proofs.SuperLaws.{super_of-take}
 use Rattle.o2_model.proofs.SuperSector.{superblock-first}
-use Rattle.o2_tools.proofs.superblock.SuperSector.superblock.Goals as goal
+use Rattle.o2_view.proofs.superblock.SuperSector.superblock.Goals as goal
 
 pub returns : goal.returns
 returns c I is =

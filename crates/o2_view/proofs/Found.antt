@@ -8,8 +8,8 @@ use Rattle.o2_ondisk.specs.Super.{super_of}
 use Rattle.o2_disk.specs.Image.{Image, bytes_from}
 use Rattle.o2_model.specs.Superblock.{super_sector, super_signature, has_super, superblock_bits, block_sizes}
 use Rattle.o2_model.proofs.SuperSector.{super_sector-is, super_sector-within, has_super-first, has_super-short}
-use Rattle.o2_tools.specs.SuperSector.{IsSuperSector}
-use Rattle.o2_tools.specs.declared.superblock.SuperSector.{SuperSector}
+use Rattle.o2_view.specs.SuperSector.{IsSuperSector}
+use Rattle.o2_view.specs.declared.superblock.SuperSector.{SuperSector}
 
 module _ (bits : ℕ) (least : 9 ≤ bits) (most : bits ≤ 12) where
   few_sectors : 2 ^ (bits - 9) ≤ 8

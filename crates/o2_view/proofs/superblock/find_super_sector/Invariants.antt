@@ -3,7 +3,7 @@ use Rattle.std.specs.Prelude.{find}
 use Rattle.o2_disk.specs.Image.{Image}
 use Rattle.o2_disk.specs.Device.{ReadsOnly, SameDevice}
 use Rattle.o2_model.specs.Superblock.{has_super, block_sizes}
-use Rattle.o2_tools.proofs.superblock.find_super_sector.Given as goal
+use Rattle.o2_view.proofs.superblock.find_super_sector.Given as goal
 
 abbrev pub invariant-loop-bits : goal.invariant-loop-bits
 invariant-loop-bits g l = record {

@@ -1,0 +1,19 @@
+//! A volume as its readers see it: where its superblock is, its blocks, and the types that all readers share.
+#![tactic(auto)]
+
+mod block;
+mod fault;
+mod items;
+mod run;
+mod slot_part;
+mod superblock;
+mod which;
+
+pub use block::Block;
+pub use fault::{ReadFault, ViewFault};
+pub use items::{Blocks, Bytes, Items, Numbers, Pairs, Runs};
+pub use o2_model::{Check, Geo, Oddity};
+pub use run::Run;
+pub use slot_part::SlotPart;
+pub use superblock::{SuperSector, find_super, find_super_sector};
+pub use which::Which;
