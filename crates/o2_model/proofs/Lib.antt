@@ -2,3 +2,4 @@ pub mod Labels
 pub mod SuperSector
 pub mod Entries
 pub mod Readings
+pub mod Looks

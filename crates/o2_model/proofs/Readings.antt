@@ -88,7 +88,7 @@ same_records : (v : Volume) (at : ℕ → List ℕ) (b : ℕ) → at b ≡ v.at 
 unfolding records_in_block
 same_records v at b same = rw same refl
 
-met_seen : (v : Volume) (b : ℕ) (t : Extents) → (with_met v b t).seen ≡ t.seen
+pub met_seen : (v : Volume) (b : ℕ) (t : Extents) → (with_met v b t).seen ≡ t.seen
 unfolding with_met
 met_seen v b t = elim (cases_Bool (is_sound_header (most_in_block v) (list_in_block v b).header)) [
   | inl sound ↦ rw sound refl

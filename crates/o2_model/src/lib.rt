@@ -10,7 +10,9 @@ mod oddity;
 
 pub use check::Check;
 pub use entry_laws::entries_fill_their_bytes;
-pub use extent_laws::{leaf_records_are_those_below, other_blocks_keep_extents};
+pub use extent_laws::{
+    few_blocks_are_looked_at, leaf_records_are_those_below, other_blocks_keep_extents,
+};
 pub use geo::Geo;
 pub use laws::label_alone_changes;
 pub use oddity::Oddity;
