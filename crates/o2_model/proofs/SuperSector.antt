@@ -12,6 +12,7 @@ use Rattle.o2_ondisk.proofs.NumberLaws.{number_at-take}
 use Rattle.o2_ondisk.proofs.SuperLaws.{super_of-take}
 use Rattle.o2_disk.specs.Image.{Image, byte, bytes_from, block_at}
 use Rattle.o2_model.specs.Superblock.{superblock, cluster_count, super_sector, super_signature, has_super}
+use Rattle.o2_model.specs.Geometry.{geometry_in, geometry_at}
 
 -- the first bytes of some bytes of an image
 pub bytes_from-take : (I : Image) (start n count : ℕ) → n ≤ count → take n (bytes_from I start count) ≡ bytes_from I start n
@@ -75,6 +76,13 @@ module _ (bits : ℕ) (least : 9 ≤ bits) where
 
     pub cluster_count-first : number_at 0x14 4 bytes ≡ cluster_count I bits
     cluster_count-first = number_at-first 0x14 4 (omega arith)
+
+    -- the numbers that the first sector tells are those of the volume
+    pub geometry-first : (part : Super) (clusters generation : ℕ) → part ≡ superblock I bits → clusters ≡ cluster_count I bits → generation ≡ number_at 0x60 4 bytes → geometry_in part clusters generation ≡ geometry_at I bits
+    geometry-first part clusters generation super_is clusters_are generation_is =
+        ap (λ (s : Super). geometry_in s clusters generation) super_is
+        ∙ ap (λ (n : ℕ). geometry_in (superblock I bits) n generation) clusters_are
+        ∙ ap (λ (n : ℕ). geometry_in (superblock I bits) (cluster_count I bits) n) (generation_is ∙ number_at-first 0x60 4 (omega arith))
 
     -- what the first sector says of a superblock
     pub has_super-first : 3 * 2 ^ (bits - 9) ≤ length I → has_super I bits ≡ (number_at 0x0 8 bytes == super_signature && (super_of (drop 0xc0 bytes)).blocksize_bits == bits)

@@ -3,31 +3,30 @@ use Rattle.std.specs.Prelude.{ℕ, ◌^◌, List, drop, Option}
 use Rattle.std.specs.Option.{option_map}
 use Rattle.o2_ondisk.specs.Dinodes.{dinode_of}
 use Rattle.o2_ondisk.specs.Super.{super_of}
-use Rattle.o2_ondisk.specs.declared.dinode.Dinode.{Dinode}
 use Rattle.o2_ondisk.specs.declared.superblock.Super.{Super}
 use Rattle.o2_disk.specs.Image.{Image, block_at}
 use Rattle.o2_model.specs.Superblock.{superblock_bits}
 use Rattle.o2_model.specs.declared.geo.Geo.{Geo}
 
--- those that a dinode and the super's part of it tell
-abbrev pub geometry_in : Dinode → Super → Geo
-geometry_in d s = record {
-  block_bits = s.blocksize_bits;
-  cluster_bits = s.clustersize_bits;
-  clusters = d.clusters;
-  slots = s.max_slots;
-  root = s.root_blkno;
-  sysdir = s.system_dir_blkno;
-  first_group = s.first_cluster_group;
-  generation = d.fs_generation;
-  compat = s.feature_compat;
-  incompat = s.feature_incompat;
-  seed = s.dx_seed;
+-- those of a super's part and of two fields of the dinode around it, i_clusters and i_fs_generation
+abbrev pub geometry_in : Super → ℕ → ℕ → Geo
+geometry_in part clusters generation = record {
+  block_bits = part.blocksize_bits;
+  cluster_bits = part.clustersize_bits;
+  clusters = clusters;
+  slots = part.max_slots;
+  root = part.root_blkno;
+  sysdir = part.system_dir_blkno;
+  first_group = part.first_cluster_group;
+  generation = generation;
+  compat = part.feature_compat;
+  incompat = part.feature_incompat;
+  seed = part.dx_seed;
 }
 
 -- those that the bytes of block 2 tell
 abbrev pub geometry_of : List ℕ → Geo
-geometry_of bytes = geometry_in (dinode_of bytes) (super_of (drop 0xc0 bytes))
+geometry_of bytes = geometry_in (super_of (drop 0xc0 bytes)) (dinode_of bytes).clusters (dinode_of bytes).fs_generation
 
 -- those of the image where a block has 2 ^ bits bytes
 abbrev pub geometry_at : Image → ℕ → Geo

@@ -7,6 +7,7 @@ mod items;
 mod run;
 mod slot_part;
 mod superblock;
+mod view;
 mod which;
 
 pub use block::Block;
@@ -16,4 +17,5 @@ pub use o2_model::{Check, Geo, Oddity};
 pub use run::Run;
 pub use slot_part::SlotPart;
 pub use superblock::{SuperSector, find_super, find_super_sector};
+pub use view::View;
 pub use which::Which;
