@@ -8,16 +8,11 @@ use Rattle.std.proofs.lemmas.List.Folds.{list_any-append}
 use Rattle.std.proofs.lemmas.Map.Keys.{IsDistinct-push}
 use Rattle.std.proofs.lemmas.Map.Steps.{length-le_from_distinct_below}
 use Rattle.o2_ondisk.specs.declared.extent_rec.ExtentRec.{ExtentRec}
-use Rattle.o2_model.specs.Words.{among, push}
+use Rattle.o2_model.specs.Words.{among, push, Apart}
 use Rattle.o2_model.specs.Volume.{Volume, blocks, is_in_range}
 use Rattle.o2_model.specs.Extents.{Extents, leaf_clusters, list_in_block, with_leaf, with_seen, with_block, with_fault, end_of, is_sound_header, is_extent_block, is_sound_leaf, names_new_block, most_in_block, with_met, records_in_block, read_records, nothing_read, extent_list}
 use Rattle.o2_model.specs.Inodes.{extents, has_list, most_flags, most_in_dinode}
 use Rattle.o2_model.proofs.Readings.{met_seen}
-
--- these numbers and 0 are all different and below n
-pub record Apart (n : ℕ) (bs : List ℕ) : Type 0 where
-  pub distinct : IsDistinct eqb (0 ∷ bs)
-  pub within : (b : ℕ) → list_any (eqb b) (0 ∷ bs) ≡ true → b < n
 
 pub apart_none : (n : ℕ) → 0 < n → Apart n []
 unfolding IsDistinct
@@ -29,15 +24,15 @@ apart_none n some = record {
 pub room_left : (n : ℕ) (bs : List ℕ) → Apart n bs → length bs + 1 ≤ n
 room_left n bs h = omega (arith, length-le_from_distinct_below (0 ∷ bs) n h.distinct h.within)
 
-new_apart : (v : Volume) (low : ℕ) (seen : List ℕ) (r : ExtentRec) → names_new_block v low seen r ≡ true → list_any (eqb r.blkno) (0 ∷ seen) ≡ false
+pub new_apart : (v : Volume) (low : ℕ) (seen : List ℕ) (r : ExtentRec) → names_new_block v low seen r ≡ true → list_any (eqb r.blkno) (0 ∷ seen) ≡ false
 unfolding names_new_block
 new_apart v low seen r new = grind (arith, nat_tests)
 
-new_below : (v : Volume) (low : ℕ) (seen : List ℕ) (r : ExtentRec) → names_new_block v low seen r ≡ true → r.blkno < blocks v
+pub new_below : (v : Volume) (low : ℕ) (seen : List ℕ) (r : ExtentRec) → names_new_block v low seen r ≡ true → r.blkno < blocks v
 unfolding names_new_block
 new_below v low seen r new = grind (arith, nat_tests)
 
-apart_more : (n : ℕ) (bs : List ℕ) (b : ℕ) → b < n → list_any (eqb b) (0 ∷ bs) ≡ false → Apart n bs → Apart n (push bs b)
+pub apart_more : (n : ℕ) (bs : List ℕ) (b : ℕ) → b < n → list_any (eqb b) (0 ∷ bs) ≡ false → Apart n bs → Apart n (push bs b)
 apart_more n bs b low new h = record {
   distinct = IsDistinct-push nat_eq_equiv (0 ∷ bs) b h.distinct new;
   within = λ a k.
@@ -47,7 +42,7 @@ apart_more n bs b low new h = record {
       (or_cases _ _ parts);
 }
 
-apart_seen : (v : Volume) (low : ℕ) (t : Extents) (r : ExtentRec) → names_new_block v low t.seen r ≡ true → Apart (blocks v) t.seen → Apart (blocks v) (with_seen t r.blkno).seen
+pub apart_seen : (v : Volume) (low : ℕ) (t : Extents) (r : ExtentRec) → names_new_block v low t.seen r ≡ true → Apart (blocks v) t.seen → Apart (blocks v) (with_seen t r.blkno).seen
 apart_seen v low t r new h = apart_more (blocks v) t.seen r.blkno (new_below v low t.seen r new) (new_apart v low t.seen r new) h
 
 pub reading_apart : (v : Volume) (m depth holder low : ℕ) (rs : List ExtentRec) (t : Extents) → Apart (blocks v) t.seen → Apart (blocks v) (read_records v m depth holder low rs t).seen

@@ -1,6 +1,6 @@
 -- Words that the definitions over a volume share.
-use Rattle.std.specs.Prelude.{◌≡◌, ℕ, ◌+◌, ◌*◌, ◌≤◌, Bool, true, not, ◌==◌, List, [], ◌∷◌, ◌++◌, All, map, filter, drop, if◌then◌else◌}
-use Rattle.std.specs.List.{range_with_len, list_any}
+use Rattle.std.specs.Prelude.{◌≡◌, ℕ, ◌+◌, ◌*◌, ◌<◌, ◌≤◌, nat_eq, Bool, true, not, ◌==◌, List, [], ◌∷◌, ◌++◌, All, map, filter, drop, if◌then◌else◌}
+use Rattle.std.specs.List.{range_with_len, list_any, IsDistinct}
 
 -- `count` records of `width` bytes each, from byte `at` on
 abbrev pub table : {A : Type 0} → (List ℕ → A) → ℕ → ℕ → ℕ → List ℕ → List A
@@ -18,6 +18,11 @@ among ns n = list_any (λ m. n == m) ns
 pub record IsLeast (n : ℕ) (ns : List ℕ) : Type 0 where
   pub is_among : among ns n ≡ true
   pub each : All (λ m. n ≤ m) ns
+
+-- these numbers and 0 are all different and below n
+pub record Apart (n : ℕ) (bs : List ℕ) : Type 0 where
+  pub distinct : IsDistinct nat_eq (0 ∷ bs)
+  pub within : (b : ℕ) → among (0 ∷ bs) b ≡ true → b < n
 
 -- ---- where a check fails
 -- the items that lack something
