@@ -1,3 +1,4 @@
+pub mod Geometries
 pub mod Labels
 pub mod SuperSector
 pub mod Entries

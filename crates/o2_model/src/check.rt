@@ -167,3 +167,64 @@ impl fmt::Display for Check {
         f.write_str(self.name())
     }
 }
+
+#[cfg(test)]
+mod tests {
+    use super::*;
+    use std::test::Fail;
+
+    #[test]
+    fn prints_its_name(rt: HostRuntime) -> Result<(), Fail> {
+        for (check, name) in [
+            (Check::Super, "SUPER"),
+            (Check::Sysdir, "SYSDIR"),
+            (Check::Sysfile, "SYSFILE"),
+            (Check::Root, "ROOT"),
+            (Check::ChainHeader, "CHAIN_HEADER"),
+            (Check::Journal, "JOURNAL"),
+            (Check::SlotMap, "SLOT_MAP"),
+            (Check::JournalDirty, "JOURNAL_DIRTY"),
+            (Check::ChainLink, "CHAIN_LINK"),
+            (Check::GroupMissing, "GROUP_MISSING"),
+            (Check::InodeAllocBit, "INODE_ALLOC_BIT"),
+            (Check::InodeSuballoc, "INODE_SUBALLOC"),
+            (Check::InodeKind, "INODE_KIND"),
+            (Check::Extent, "EXTENT"),
+            (Check::MetaBlock, "META_BLOCK"),
+            (Check::MetaSuballoc, "META_SUBALLOC"),
+            (Check::EbNext, "EB_NEXT"),
+            (Check::LastEb, "LAST_EB"),
+            (Check::InodeSize, "INODE_SIZE"),
+            (Check::DirBlock, "DIR_BLOCK"),
+            (Check::DirentName, "DIRENT_NAME"),
+            (Check::DirentDup, "DIRENT_DUP"),
+            (Check::DirDots, "DIR_DOTS"),
+            (Check::DirentInode, "DIRENT_INODE"),
+            (Check::DirentType, "DIRENT_TYPE"),
+            (Check::DirParent, "DIR_PARENT"),
+            (Check::OrphanFlag, "ORPHAN_FLAG"),
+            (Check::OrphanEntry, "ORPHAN_ENTRY"),
+            (Check::NotConnected, "NOT_CONNECTED"),
+            (Check::RefTree, "REF_TREE"),
+            (Check::RefCover, "REF_COVER"),
+            (Check::RefCount, "REF_COUNT"),
+            (Check::RefUsers, "REF_USERS"),
+            (Check::Dx, "DX"),
+            (Check::InodeClusters, "INODE_CLUSTERS"),
+            (Check::InodeCount, "INODE_COUNT"),
+            (Check::DupClusters, "DUP_CLUSTERS"),
+            (Check::LocalAlloc, "LOCAL_ALLOC"),
+            (Check::TruncateLog, "TRUNCATE_LOG"),
+            (Check::BackupSuper, "BACKUP_SUPER"),
+            (Check::BlockAllocBit, "BLOCK_ALLOC_BIT"),
+            (Check::ClusterAllocBit, "CLUSTER_ALLOC_BIT"),
+            (Check::GroupChain, "GROUP_CHAIN"),
+            (Check::GroupFreeBits, "GROUP_FREE_BITS"),
+            (Check::ChainBits, "CHAIN_BITS"),
+            (Check::AllocTotals, "ALLOC_TOTALS"),
+        ] {
+            assert_eq!(rt; check.to_string(rt.alloc())?.as_str(), name);
+        }
+        Ok(())
+    }
+}

@@ -14,5 +14,5 @@ pub use extent_laws::{
     few_blocks_are_looked_at, leaf_records_are_those_below, other_blocks_keep_extents,
 };
 pub use geo::Geo;
-pub use laws::label_alone_changes;
+pub use laws::{geometry_tells_block_bits, label_alone_changes};
 pub use oddity::Oddity;

@@ -59,3 +59,28 @@ impl fmt::Display for Oddity {
         f.write_str(self.text())
     }
 }
+
+#[cfg(test)]
+mod tests {
+    use super::*;
+    use std::test::Fail;
+
+    #[test]
+    fn prints_its_text(rt: HostRuntime) -> Result<(), Fail> {
+        for (oddity, text) in [
+            (Oddity::Metaecc, "metaecc"),
+            (Oddity::Quota, "quota"),
+            (Oddity::HeartbeatDevice, "heartbeat device"),
+            (Oddity::LocalMount, "local mount"),
+            (Oddity::InProgress, "in progress"),
+            (Oddity::UnknownFeatures, "unknown features"),
+            (Oddity::Clusters, "clusters"),
+            (Oddity::DiscontiguousGroup, "discontiguous group"),
+            (Oddity::Attributes, "attributes"),
+            (Oddity::DioOrphan, "dio orphan"),
+        ] {
+            assert_eq!(rt; oddity.to_string(rt.alloc())?.as_str(), text);
+        }
+        Ok(())
+    }
+}

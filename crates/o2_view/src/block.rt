@@ -18,12 +18,14 @@ impl Model for Block {
 }
 
 impl Block {
+    /// The bytes where they stand.
     pub fn as_slice(&self) -> &[u8]
         ensures { result.now ≡ self.now }
     {
         &self.bytes
     }
 
+    /// The vector that the block was made from, so that no memory is taken.
     pub fn into_vec(self) -> Vec<u8>
         ensures { result.items ≡ self }
     {

@@ -19,3 +19,6 @@ pub use slot_part::SlotPart;
 pub use superblock::{SuperSector, find_super, find_super_sector};
 pub use view::View;
 pub use which::Which;
+
+#[cfg(test)]
+mod tests;

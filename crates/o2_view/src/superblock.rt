@@ -6,7 +6,8 @@ ghost use Rattle.o2_disk.specs.Device.{ReadsOnly, SameDevice, HasCause};
 ghost use Rattle.o2_model.specs.Image.{Image};
 ghost use Rattle.o2_model.specs.Superblock.{has_super, super_signature, superblock_bits};
 ghost use Rattle.o2_model.specs.Geometry.{superblock_geometry};
-ghost use Rattle.o2_view.specs.SuperSector.{IsSuperSector};
+ghost use Rattle.o2_view.specs.SuperSector.{IsSuperSector, TellsSuper};
+ghost use Rattle.o2_view.specs.Blocks.{AreBlocks};
 ghost use Rattle.o2_view.specs.Counted.{CallsAtMost};
 
 use crate::ViewFault;
@@ -38,25 +39,28 @@ pub struct SuperSector {
 
 impl SuperSector {
     ghost use Rattle.o2_model.specs.Superblock.{superblock, cluster_count};
-    ghost use Rattle.o2_model.specs.Geometry.{geometry_at};
+    ghost use Rattle.o2_model.specs.Geometry.{geometry_of, geometry_at};
 
     /// The superblock's part of it.
     pub fn superblock(&self) -> Super
-        ensures { (I : Image) → IsSuperSector I self.now → result ≡ superblock I self.now.bits }
+        ensures told { result ≡ super_of (drop 0xc0 self.now.bytes) }
+        ensures volume { (I : Image) → IsSuperSector I self.now → result ≡ superblock I self.now.bits }
     {
         read_super(&self.bytes[SUPER_AT..])
     }
 
     /// The number of the volume's clusters.
     pub fn cluster_count(&self) -> u32
-        ensures { (I : Image) → IsSuperSector I self.now → result ≡ cluster_count I self.now.bits }
+        ensures told { result ≡ number_at 0x14 4 self.now.bytes }
+        ensures volume { (I : Image) → IsSuperSector I self.now → result ≡ cluster_count I self.now.bits }
     {
         u32_at(&self.bytes, CLUSTERS_AT)
     }
 
     /// The numbers that it tells of its volume.
     pub fn geometry(&self) -> Geo
-        ensures { (I : Image) → IsSuperSector I self.now → result ≡ geometry_at I self.now.bits }
+        ensures told { result ≡ geometry_of self.now.bytes }
+        ensures volume { (I : Image) → IsSuperSector I self.now → result ≡ geometry_at I self.now.bits }
     {
         let part = self.superblock();
         Geo {
@@ -78,6 +82,8 @@ impl SuperSector {
 /// Looks for a superblock, at the smallest block size first, and answers the numbers that it tells. It takes no memory.
 pub fn find_super<D: Disk>(_alloc: Global, disk: &mut D) -> Result<Option<Geo>, ViewFault>
     ensures found { IfOk result (λ geo. (I : Image) → (D.state disk.old).content ≡ Some I → geo ≡ superblock_geometry I) }
+    // Block 2 lies within the device.
+    ensures blocks { IfOk result (λ geo. IfSome geo (λ g. AreBlocks g.block_bits 3 (D.state disk.old).sectors)) }
     // One read for each block size.
     ensures count { CallsAtMost 4 (D.state disk.old) (D.state disk.new) }
     ensures reads { ReadsOnly (D.state disk.old) (D.state disk.new) }
@@ -95,6 +101,8 @@ pub fn find_super<D: Disk>(_alloc: Global, disk: &mut D) -> Result<Option<Geo>, 
 pub fn find_super_sector<D: Disk>(device: &mut D) -> Result<Option<SuperSector>, Failed>
     ensures found { IfOk result (λ found. (I : Image) → (D.state device.old).content ≡ Some I
         → MatchOption found (superblock_bits I ≡ None) (λ sector. (superblock_bits I ≡ Some sector.bits) × IsSuperSector I sector)) }
+    ensures tells { IfOk result (λ found. IfSome found TellsSuper) }
+    ensures blocks { IfOk result (λ found. IfSome found (λ sector. AreBlocks sector.bits 3 (D.state device.old).sectors)) }
     ensures within { IfOk result (λ found. IfSome found (λ sector. sector.at + 1 ≤ (D.state device.new).sectors)) }
     ensures count { CallsAtMost 4 (D.state device.old) (D.state device.new) }
     ensures reads { ReadsOnly (D.state device.old) (D.state device.new) }
@@ -116,6 +124,8 @@ fn read_super_sector<D: Disk>(device: &mut D, bits: u32) -> Result<Option<SuperS
     requires most { bits ≤ 12 }
     ensures found { IfOk result (λ found. (I : Image) → (D.state device.old).content ≡ Some I
         → MatchOption found (has_super I bits ≡ false) (λ sector. (has_super I bits ≡ true) × (sector.bits ≡ bits) × IsSuperSector I sector)) }
+    ensures tells { IfOk result (λ found. IfSome found TellsSuper) }
+    ensures blocks { IfOk result (λ found. IfSome found (λ sector. AreBlocks sector.bits 3 (D.state device.old).sectors)) }
     ensures within { IfOk result (λ found. IfSome found (λ sector. sector.at + 1 ≤ (D.state device.new).sectors)) }
     ensures count { CallsAtMost 1 (D.state device.old) (D.state device.new) }
     ensures reads { ReadsOnly (D.state device.old) (D.state device.new) }

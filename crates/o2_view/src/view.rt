@@ -9,21 +9,26 @@ use crate::{Block, ViewFault};
 use o2_disk::{Disk, NoMemory};
 use std::alloc::Global;
 
-/// The first blocks of a disk, of which N at most are kept in memory.
+/// A disk that is read by blocks, up to a number of them. It may keep N blocks in memory, and keeps none so far.
 #[derive(Drop)]
 pub struct View<'a, D: Disk, const N: usize> {
     alloc: Global,
     disk: &'a mut D,
     block_bits: u32,
     blocks: u64,
-    ghost sized: { AreBlocks block_bits blocks (D.state disk.now).sectors },
+    pub ghost sized: { AreBlocks block_bits blocks (D.state disk.now).sectors },
 }
 
 impl<'a, D: Disk, const N: usize> View<'a, D, N> {
     ghost use Rattle.o2_view.specs.Views.{view_disk, view_state, view_bits, view_blocks, SameView};
 
     /// A view of so many blocks of 2^`block_bits` bytes. It takes no memory, so it answers Ok.
-    pub fn new(alloc: Global, disk: &'a mut D, block_bits: u32, blocks: u64) -> Result<Self, NoMemory>
+    pub fn new(
+        alloc: Global,
+        disk: &'a mut D,
+        block_bits: u32,
+        blocks: u64,
+    ) -> Result<Self, NoMemory>
         requires least { 9 ≤ block_bits }
         requires most { block_bits ≤ 12 }
         requires within { sectors_per_block block_bits * blocks ≤ (D.state disk.old).sectors }

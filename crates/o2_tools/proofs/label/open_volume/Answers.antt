@@ -10,9 +10,9 @@ use Rattle.o2_tools.proofs.label.open_volume.Goals as goal
 pub returns-then-is_not_served-clause-refused : goal.returns-then-is_not_served-clause-refused
 returns-then-is_not_served-clause-refused g c I content =
     let found = subst (λ (o : Option SuperSector). MatchOption o (superblock_bits I ≡ None) (λ s. (superblock_bits I ≡ Some s.bits) × IsSuperSector I s)) c.in-Some.is (c.in_ok-sector.ensures.found I (c.attach.ensures.same.content ∙ content)) in
-    inl (refusal_read I c.in-Some.sector c.is_not_served.result c.superblock.result c.cluster_count.result found c.superblock.ensures c.cluster_count.ensures c.is_not_served.ensures ∙ ap (λ (b : Bool). if b then Some Later else None) c.if-is_not_served.true)
+    inl (refusal_read I c.in-Some.sector c.is_not_served.result c.superblock.result c.cluster_count.result found c.superblock.ensures.volume c.cluster_count.ensures.volume c.is_not_served.ensures ∙ ap (λ (b : Bool). if b then Some Later else None) c.if-is_not_served.true)
 
 pub returns-clause-found : goal.returns-clause-found
 returns-clause-found g c I content =
     let found = subst (λ (o : Option SuperSector). MatchOption o (superblock_bits I ≡ None) (λ s. (superblock_bits I ≡ Some s.bits) × IsSuperSector I s)) c.in-Some.is (c.in_ok-sector.ensures.found I (c.attach.ensures.same.content ∙ content)) in
-    (found.0, found.1, refusal_read I c.in-Some.sector c.is_not_served.result c.superblock.result c.cluster_count.result found c.superblock.ensures c.cluster_count.ensures c.is_not_served.ensures ∙ ap (λ (b : Bool). if b then Some Later else None) c.if-is_not_served.false)
+    (found.0, found.1, refusal_read I c.in-Some.sector c.is_not_served.result c.superblock.result c.cluster_count.result found c.superblock.ensures.volume c.cluster_count.ensures.volume c.is_not_served.ensures ∙ ap (λ (b : Bool). if b then Some Later else None) c.if-is_not_served.false)

@@ -13,7 +13,7 @@ use Rattle.o2_tools.proofs.label.put_label.Goals as goal
 same : goal.returns-then-eq-clause-done
 same g c I content is =
     let size = g.met.D.Disk.has_sectors c.args.device.now I content in
-    let told = ap (λ (s : Super). s.label) (sym (c.superblock.ensures I is)) ∙ (bytes_eq-Decides c.superblock.result.label c.args.label.now).0 (sym c.eq.ensures ∙ c.if-eq.true) in
+    let told = ap (λ (s : Super). s.label) (sym (c.superblock.ensures.volume I is)) ∙ (bytes_eq-Decides c.superblock.result.label c.args.label.now).0 (sym c.eq.ensures ∙ c.if-eq.true) in
     content ∙ ap (λ (J : Image). Some J) (sym (same_label I c.args.sector.now is (g.met.D.Disk.is_image c.args.device.now I content) (omega (arith, size, c.requires.within)) c.args.label.now c.told-label told))
 
 pub returns-then-eq-clause-done : goal.returns-then-eq-clause-done
@@ -46,7 +46,7 @@ pub returns-clause-idle : goal.returns-clause-idle
 returns-clause-idle g c I content is same =
     let size = g.met.D.Disk.has_sectors c.args.device.now I content in
     let there = is_there I c.args.sector.now is (g.met.D.Disk.is_image c.args.device.now I content) (omega (arith, size, c.requires.within)) c.args.label.now c.told-label same in
-    let equal = ap (λ (s : Super). s.label) (c.superblock.ensures I is) ∙ there in
+    let equal = ap (λ (s : Super). s.label) (c.superblock.ensures.volume I is) ∙ there in
     let yes : c.eq.result ≡ true = c.eq.ensures ∙ (bytes_eq-Decides c.superblock.result.label c.args.label.now).1 equal in
     absurd (let no = c.if-eq.false in let never : ⊥ = cc (yes, no) in never)
 
