@@ -9,7 +9,8 @@ use Rattle.o2_model.specs.Volume.{Volume, over}
 use Rattle.o2_model.specs.Frames.{SameOn}
 use Rattle.o2_model.specs.Clusters.{are_clusters_in_range}
 use Rattle.o2_model.specs.Extents.{Extents, leaf_clusters, list_in_block, with_leaf, with_seen, with_block, with_fault, end_of, is_sound_header, is_extent_block, is_sound_leaf, names_new_block, most_in_block, with_met, records_in_block, read_records, nothing_read, leaves_below, extent_list}
-use Rattle.o2_model.specs.Inodes.{is_directory, extents, has_list, is_link, most_flags, most_in_dinode}
+use Rattle.o2_model.specs.Checks.Extent.{extent_faults}
+use Rattle.o2_model.specs.Inodes.{is_directory, extents, has_list, most_flags, extent_lists_of, most_in_dinode}
 
 -- ---- what a reading keeps of what was read before
 record Grows (t u : Extents) : Type 0 where
@@ -141,7 +142,6 @@ reading_same v at m (suc depth) holder low (r ∷ rs) t same none =
     ]
 
 same_has_list : (v : Volume) (at : ℕ → List ℕ) (b : ℕ) → at b ≡ v.at b → has_list (over v at) b ≡ has_list v b
-unfolding has_list is_link
 same_has_list v at b same = rw same refl
 
 -- and so does an inode
@@ -214,3 +214,11 @@ leaf_records_are v b has none =
       | inr bad ↦ absurd (push_some [] b (rw (has, bad) at none))
       | inl sound ↦ rw (has, sound) (leaves_are v (most_flags v b) list.header.tree_depth b 0 list.records nothing_read (rw (has, sound) at none))
     ]
+
+-- ---- an inode's lists
+pub faults_of_own_list : (v : Volume) (b : ℕ) → extent_faults v b ≡ (extents v b).faults
+unfolding extent_lists_of extents
+faults_of_own_list v b = elim (cases_Bool (has_list v b)) [
+  | inl has ↦ rw has (append-nil _)
+  | inr none ↦ rw none refl
+]

@@ -2,6 +2,7 @@
 use Rattle.std.specs.Prelude.{ℕ, ◌-◌, ◌/◌, Bool, true, false, ◌&&◌, not, ◌==◌, List, [], ◌∷◌, map, flat_map, Option, Some, None, if◌then◌else◌}
 use Rattle.o2_ondisk.specs.Bits.{has_bits}
 use Rattle.o2_ondisk.specs.Kinds.{kind_of_mode}
+use Rattle.o2_ondisk.specs.declared.dinode.Dinode.{Dinode}
 use Rattle.o2_ondisk.specs.declared.extent_rec.ExtentRec.{ExtentRec}
 use Rattle.o2_ondisk.specs.declared.kind.Kind.{Kind}
 use Rattle.o2_ondisk.specs.declared.kind.Kind.TheVariants.{File, Directory, Character, Block, Fifo, Socket, Link}
@@ -44,8 +45,11 @@ abbrev pub is_inline : Volume → ℕ → Bool
 is_inline v b = has_bits (dinode v b).dyn_features.0 inline_flag
 
 -- a symbolic link whose text stands in the dinode in place of a list (id2.i_symlink of struct ocfs2_dinode)
+abbrev pub has_fast_text : Dinode → Bool
+has_fast_text d = is_link_kind (kind_of_mode d.mode) && d.clusters == 0
+
 abbrev pub is_fast_link : Volume → ℕ → Bool
-is_fast_link v b = is_link v b && (dinode v b).clusters == 0
+is_fast_link v b = has_fast_text (dinode v b)
 
 -- `OCFS2_LOCAL_ALLOC_FL`, `OCFS2_CHAIN_FL` and `OCFS2_DEALLOC_FL` of i_flags: something else stands in the list's place
 abbrev pub no_list_flags : ℕ
@@ -60,12 +64,15 @@ has_data (Some Socket) = false
 has_data _ = true
 
 -- the dinode has an extent list (id2.i_list of struct ocfs2_dinode)
-unfoldable pub has_list : Volume → ℕ → Bool
-has_list v b =
-    has_data (kind v b)
-    && not (is_fast_link v b)
-    && not (is_inline v b)
-    && not (has_bits (dinode v b).flags.0 no_list_flags)
+unfoldable pub holds_list : Dinode → Bool
+holds_list d =
+    has_data (kind_of_mode d.mode)
+    && not (has_fast_text d)
+    && not (has_bits d.dyn_features.0 inline_flag)
+    && not (has_bits d.flags.0 no_list_flags)
+
+abbrev pub has_list : Volume → ℕ → Bool
+has_list v b = holds_list (dinode v b)
 
 -- ---- extents
 -- at most this many records fit a dinode (ocfs2_extent_recs_per_inode)
