@@ -7,8 +7,12 @@ mod inode;
 mod inode_records;
 mod leaf;
 mod list;
+mod maps;
 mod reading;
+mod runs;
 mod tree;
 
 pub use inode_records::records;
 pub use leaf::{Leaf, Leaves};
+pub use maps::map_cluster;
+pub use runs::{ExtentList, list_of_runs};

@@ -6,7 +6,6 @@ use Rattle.o2_ondisk.specs.declared.extent_rec.ExtentRec.{ExtentRec}
 use Rattle.o2_ondisk.specs.declared.kind.Kind.{Kind}
 use Rattle.o2_ondisk.specs.declared.kind.Kind.TheVariants.{File, Directory, Link}
 use Rattle.o2_model.specs.Volume.{Volume, block_size, per_cluster, dinode}
-use Rattle.o2_model.specs.Clusters.{cluster_size}
 use Rattle.o2_model.specs.Extents.{leaf_clusters}
 use Rattle.o2_model.specs.Inodes.{kind, is_inline, is_fast_link, leaf_records}
 use Rattle.o2_model.specs.Directories.{is_written, inline_bytes, directory_entries}
@@ -19,16 +18,21 @@ maps_cluster c r = nat_le r.cpos c && nat_lt c (r.cpos + leaf_clusters r)
 abbrev pub mapped_block : ℕ → ℕ → ExtentRec → ℕ
 mapped_block per_cluster c r = r.blkno + per_cluster * (c - r.cpos)
 
--- byte k by the record of its cluster: 0 where the clusters are not written
-abbrev pub byte_under : Volume → ℕ → ExtentRec → ℕ
-byte_under v k r =
-    if is_written r
-    then slice_index (v.at (mapped_block (per_cluster v) (k / cluster_size v) r + k % cluster_size v / block_size v)) (k % block_size v)
-    else 0
+-- the bytes of block j of the file by the record of its cluster, where the record's clusters are written
+abbrev pub file_block : Volume → ℕ → ExtentRec → List ℕ
+file_block v j r = v.at (mapped_block (per_cluster v) (j / per_cluster v) r + j % per_cluster v)
 
--- byte k by these leaf records: by the first of its cluster, and 0 in a hole
+-- byte o of block j of the file by the record of its cluster: 0 where the clusters are not written
+abbrev pub byte_under : Volume → ℕ → ℕ → ExtentRec → ℕ
+byte_under v j o r = if is_written r then slice_index (file_block v j r) o else 0
+
+-- the same by these leaf records: by the first one of its cluster, and 0 in a hole
+unfoldable pub byte_in_block : Volume → List ExtentRec → ℕ → ℕ → ℕ
+byte_in_block v leaves j o = option_map_or (byte_under v j o) (find (maps_cluster (j / per_cluster v)) leaves) 0
+
+-- byte k of the file
 abbrev pub byte_of : Volume → List ExtentRec → ℕ → ℕ
-byte_of v leaves k = option_map_or (byte_under v k) (find (maps_cluster (k / cluster_size v)) leaves) 0
+byte_of v leaves k = byte_in_block v leaves (k / block_size v) (k % block_size v)
 
 -- the text of a link that stands in the dinode
 abbrev pub fast_bytes : Volume → ℕ → List ℕ
