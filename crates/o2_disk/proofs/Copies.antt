@@ -1,5 +1,5 @@
 -- Sector by sector into a slice.
-use Rattle.std.proofs.Common.{◌≡◌, ◌≢◌, Option, Some, None, IsSome, unwrap_or, ◌&&◌, nat_le, nat_lt, if◌then◌else◌, drop, ◌⊎◌, inl, inr, ℕ, ◌+◌, ◌-◌, ◌*◌, ◌/◌, ◌%◌, ◌<◌, ◌≤◌, List, ◌++◌, length, take, get_or, refl, sym, ◌∙◌, ap, subst, arith, length-append}
+use Rattle.std.proofs.Common.{◌≡◌, ◌≢◌, Option, Some, None, IsSome, unwrap_or, ◌&&◌, nat_le, nat_lt, if◌then◌else◌, drop, inl, inr, ℕ, ◌+◌, ◌-◌, ◌*◌, ◌/◌, ◌%◌, ◌<◌, ◌≤◌, List, ◌++◌, length, take, get_or, refl, sym, ◌∙◌, ap, subst, arith}
 use Rattle.std.proofs.lemmas.List.{get_or_append_left, get_or-append_right, get_or-take, length-take-le}
 use Rattle.std.proofs.lemmas.Bool.{cases_lt, cases_eq}
 use Rattle.std.proofs.lemmas.Bool.Decides.{nat_tests}

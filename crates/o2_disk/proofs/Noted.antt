@@ -1,20 +1,20 @@
 -- What a disk is after a call that took a number.
-use Rattle.std.proofs.Common.{◌≡◌, ◌⊎◌, inl, inr, ⊎_elim, ℕ, ◌+◌, ◌-◌, ◌*◌, ◌/◌, ◌%◌, ◌<◌, ◌≤◌, List, [], ◌∷◌, ◌++◌, length, take, get_or, map, Option, Some, None, unwrap_or, option_to_list, Result, Vec, refl, sym, ◌∙◌, ap, subst, arith}
+use Rattle.std.proofs.Common.{◌≡◌, ◌⊎◌, inl, inr, ⊎_elim, ℕ, ◌+◌, ◌-◌, ◌*◌, ◌/◌, ◌%◌, ◌<◌, ◌≤◌, List, [], ◌∷◌, ◌++◌, length, take, get_or, Option, Some, None, unwrap_or, option_to_list, refl, sym, ◌∙◌, ap, subst, arith}
 use Rattle.std.proofs.lemmas.List.{ext_get_or, take_all, take-append-le, length_push, get_or_append_left}
 use Rattle.std.proofs.lemmas.List.FromFn.{length-map-range_with_len, get_or-map-range_with_len}
-use Rattle.std.proofs.lemmas.List.Elements.{Contains-append_left, Contains-append_right, Contains-append_cases, Contains-push}
-use Rattle.std.proofs.lemmas.Bool.{cases_lt, cases_eq}
+use Rattle.std.proofs.lemmas.List.Elements.{Contains-append_left, Contains-append_cases, Contains-push}
+use Rattle.std.proofs.lemmas.Bool.{cases_lt}
 use Rattle.std.proofs.Math.Seq.{get_or-append_seam}
 use Rattle.std.specs.List.{Contains}
 use Rattle.std.specs.Ordering.{nat_cmp}
 use Rattle.std.specs.BTreeMap.{BTreeMap, get}
 use Rattle.o2_disk.specs.Image.{Image, IsSector, sector, byte, bytes_from, sectors_in, piece, written, Torn, InRange, zero_sector}
-use Rattle.o2_disk.specs.Device.{DiskState, Keeps, Elapses, Follows, Leads, StaysPending, Told}
+use Rattle.o2_disk.specs.Device.{Keeps, Elapses}
 use Rattle.o2_disk.specs.declared.disk.How.{How}
 use Rattle.o2_disk.specs.declared.call.Call.{Call}
-use Rattle.o2_disk.specs.declared.call.Call.TheVariants.{Read, Write, Zeros, Sync, FailedSync}
+use Rattle.o2_disk.specs.declared.call.Call.TheVariants.{Read, Sync}
 use Rattle.o2_disk.specs.Stored.{stored}
-use Rattle.o2_disk.specs.Calls.{Choices, newest, put_into, put_by, put_or_zeros, step, run, start, IsOutcome, shown, Since, mem_state, RecordsWrite}
+use Rattle.o2_disk.specs.Calls.{Choices, newest, put_into, put_by, put_or_zeros, step, run, start, IsOutcome, shown, mem_state, RecordsWrite}
 use Rattle.o2_disk.specs.Recorded.{some_choice, contains_newest, length-shown, sector-shown, has_sectors}
 use Rattle.o2_disk.proofs.Images.{torn_all, same_image, length-written, sector-written_in, sector-written_other, in_or_out, sector_past}
 use Rattle.o2_disk.proofs.Puts.{newest_step, run_more, choose, inside, outside, is_sector_piece, IsPut, is_put, shown-same}

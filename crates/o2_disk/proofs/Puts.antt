@@ -1,24 +1,16 @@
 -- What one call more does to what each sector may hold.
-use Rattle.std.proofs.Common.{◌≡◌, ◌≢◌, ◌⊎◌, inl, inr, ⊎_elim, ℕ, ◌+◌, ◌-◌, ◌*◌, ◌/◌, ◌%◌, ◌<◌, ◌≤◌, ◌^◌, Bool, true, false, ◌&&◌, cond, List, [], ◌∷◌, ◌++◌, length, take, drop, get_or, Option, Some, None, unwrap_or, option_to_list, refl, sym, ◌∙◌, ap, subst, arith, length-append}
-use Rattle.std.proofs.lemmas.List.{take_all, take-append-le, length_push, get_or_default, get_or_past, get_or-take, get_or-drop, get_or-replicate, ext_get_or, length-take-le, length-drop, append-nil, get_or_append_left}
+use Rattle.std.proofs.Common.{◌≡◌, ◌⊎◌, inl, inr, ℕ, ◌+◌, ◌-◌, ◌*◌, ◌<◌, ◌≤◌, ◌&&◌, List, [], ◌∷◌, ◌++◌, length, drop, get_or, Option, Some, None, unwrap_or, option_to_list, refl, sym, ◌∙◌, ap, subst, arith}
+use Rattle.std.proofs.lemmas.List.{length_push, get_or_past, get_or-take, get_or-drop, get_or-replicate, ext_get_or, length-take-le, length-drop, append-nil}
 use Rattle.std.proofs.Math.Seq.{get_or-append_seam}
-use Rattle.std.proofs.lemmas.List.Elements.{Contains-append_left, Contains-append_right, Contains-append_cases, Contains-push}
-use Rattle.std.proofs.lemmas.Bool.{cases_lt, cases_eq}
+use Rattle.std.proofs.lemmas.Bool.{cases_lt}
 use Rattle.std.proofs.lemmas.Bool.Decides.{nat_tests}
-use Rattle.std.specs.List.{Contains}
-use Rattle.std.specs.Ordering.{nat_cmp}
-use Rattle.std.specs.Prelude.{nat_le, nat_lt, if◌then◌else◌, Vec}
-use Rattle.std.specs.declared.alloc.Global.{Global}
-use Rattle.std.specs.BTreeMap.{BTreeMap, get}
-use Rattle.o2_disk.specs.Image.{Image, IsImage, IsSector, sector, image_of, sectors_in, piece, written, Torn, InRange, zero_sector}
-use Rattle.o2_disk.specs.Device.{DiskState, Keeps, Elapses, Follows, Leads, StaysPending, Told}
-use Rattle.o2_disk.specs.declared.disk.How.{How}
-use Rattle.o2_disk.proofs.Images.{length-image_of, sector-image_of, same_image, length-written, sector-written_in, sector-written_other, in_or_out, sector_past, length-zero_sector}
+use Rattle.std.specs.Prelude.{nat_le, nat_lt, if◌then◌else◌}
+use Rattle.o2_disk.specs.Image.{Image, IsSector, sector, image_of, sectors_in, piece, InRange, zero_sector}
+use Rattle.o2_disk.proofs.Images.{length-image_of, sector-image_of, same_image, in_or_out, length-zero_sector}
 use Rattle.o2_disk.specs.declared.call.Call.{Call}
 use Rattle.o2_disk.specs.declared.call.Call.TheVariants.{Read, Write, Zeros, Sync, FailedSync}
-use Rattle.o2_disk.specs.Stored.{stored}
-use Rattle.o2_disk.specs.Calls.{Choices, newest, put_into, put_by, put_or_zeros, step, run, start, moment_of, IsOutcome, shown, Since, mem_state, AreZeros, RecordsWrite}
-use Rattle.o2_disk.specs.Recorded.{some_choice, contains_newest, length-shown, sector-shown}
+use Rattle.o2_disk.specs.Calls.{Choices, newest, put_into, put_by, step, run, shown, AreZeros, RecordsWrite}
+use Rattle.o2_disk.specs.Recorded.{length-shown, sector-shown}
 
 -- what is put last is the newest
 newest_more : (xs : List (List ℕ)) (o : Option (List ℕ)) → newest (xs ++ option_to_list o) ≡ unwrap_or o (newest xs)

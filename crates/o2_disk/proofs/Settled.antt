@@ -1,14 +1,13 @@
 -- A disk in memory that no call has reached yet.
-use Rattle.std.proofs.Common.{◌≡◌, inl, inr, ℕ, ◌+◌, ◌-◌, ◌<◌, ◌≤◌, List, [], ◌∷◌, length, get_or, Option, Some, None, unwrap_or, refl, sym, ◌∙◌, ap, subst, arith}
+use Rattle.std.proofs.Common.{◌≡◌, inl, inr, ℕ, ◌<◌, ◌≤◌, List, [], ◌∷◌, length, get_or, Option, Some, None, unwrap_or, refl, sym, ◌∙◌, ap, subst, arith}
 use Rattle.std.proofs.lemmas.Bool.{cases_lt}
 use Rattle.std.proofs.lemmas.Bool.Decides.{nat_tests}
 use Rattle.std.specs.Prelude.{nat_lt, if◌then◌else◌, min}
 use Rattle.std.specs.List.{Contains}
 use Rattle.std.specs.Ordering.{nat_cmp}
 use Rattle.std.specs.BTreeMap.{BTreeMap, get, IsEmpty}
-use Rattle.std.specs.Map.{lookup}
 use Rattle.o2_disk.specs.Image.{Image, IsSector, sector, image_of, zeros, zero_sector}
-use Rattle.o2_disk.specs.Device.{DiskState, IsSettled}
+use Rattle.o2_disk.specs.Device.{IsSettled}
 use Rattle.o2_disk.specs.declared.disk.How.{How}
 use Rattle.o2_disk.specs.declared.call.Call.{Call}
 use Rattle.o2_disk.specs.Stored.{stored}

@@ -1,5 +1,5 @@
 -- What a contract knows of a disk in memory.
-use Rattle.std.specs.Prelude.{◌≡◌, ◌⊎◌, ℕ, ◌+◌, Bool, List, [], ◌∷◌, ◌++◌, length, nat_lt, if◌then◌else◌, true, false, Option, None, Result, OnOk, OnErr, IsErrOf, string_bytes}
+use Rattle.std.specs.Prelude.{◌≡◌, ◌⊎◌, ℕ, ◌+◌, Bool, List, [], ◌∷◌, ◌++◌, length, nat_lt, if◌then◌else◌, true, false, None, Result, OnOk, OnErr, IsErrOf, string_bytes}
 use Rattle.std.specs.List.{Contains}
 use Rattle.o2_disk.specs.Image.{Image, sector, image_of, zero_sector}
 use Rattle.o2_disk.specs.Device.{DiskState, Rose}

@@ -1,5 +1,5 @@
 -- What a contract knows of a sink in memory.
-use Rattle.std.specs.Prelude.{◌≡◌, ◌⊎◌, ℕ, ◌+◌, ◌-◌, ◌^◌, min, List, [], length, Some, Result, OnOk, OnErr}
+use Rattle.std.specs.Prelude.{◌≡◌, ◌⊎◌, ℕ, ◌+◌, ◌-◌, ◌^◌, min, List, [], Some, Result, OnOk, OnErr}
 use Rattle.std.specs.List.{Contains}
 use Rattle.o2_disk.specs.Device.{Rose}
 use Rattle.o2_disk.specs.Output.{SinkState}

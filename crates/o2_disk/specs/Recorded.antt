@@ -1,10 +1,10 @@
 -- The laws of a record of calls.
-use Rattle.std.proofs.Common.{◌≡◌, ℕ, ◌+◌, ◌-◌, ◌<◌, ◌≤◌, ◌^◌, List, [], ◌∷◌, ◌++◌, length, take, get_or, Option, Some, option_to_list, refl, sym, ◌∙◌, ap, subst, arith, length-append}
+use Rattle.std.proofs.Common.{◌≡◌, ℕ, ◌-◌, ◌<◌, ◌≤◌, ◌^◌, List, [], ◌∷◌, ◌++◌, length, Some, option_to_list, sym, ◌∙◌, ap, subst, arith, length-append}
 use Rattle.std.proofs.lemmas.List.{take_all, get_or_default}
 use Rattle.std.proofs.lemmas.List.FromFn.{length-map-range_with_len, get_or-map-range_with_len}
 use Rattle.std.specs.List.{Contains}
 use Rattle.std.specs.BTreeMap.{BTreeMap}
-use Rattle.o2_disk.specs.Image.{Image, IsImage, IsSector, sector, image_of}
+use Rattle.o2_disk.specs.Image.{Image, IsImage, IsSector, sector}
 use Rattle.o2_disk.specs.declared.call.Call.{Call}
 use Rattle.o2_disk.specs.declared.call.Call.TheVariants.{Read, Write, Zeros, Sync, FailedSync}
 use Rattle.o2_disk.specs.Stored.{stored}

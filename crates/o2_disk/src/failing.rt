@@ -1,5 +1,5 @@
 // Which calls are to fail.
-ghost use Rattle.std.specs.Prelude.{◌≡◌, ◌<◌, ◌↔◌, [], ◌∷◌, ◌++◌, length, IsTrue};
+ghost use Rattle.std.specs.Prelude.{◌≡◌, ◌+◌, ◌<◌, ◌≤◌, ◌↔◌, [], ◌∷◌, ◌++◌, length, IsTrue};
 ghost use Rattle.std.specs.List.{Contains};
 
 use arrayvec::ArrayVec;
@@ -30,6 +30,7 @@ impl FailingCalls {
         requires { length self.old.numbers.items < 64 }
         ensures there { Contains self.old.numbers.items call → self.new.numbers.items ≡ self.old.numbers.items }
         ensures added { (Contains self.old.numbers.items call → ⊥) → self.new.numbers.items ≡ self.old.numbers.items ++ call ∷ [] }
+        ensures count { length self.new.numbers.items ≤ length self.old.numbers.items + 1 }
     {
         if !self.has(call) {
             self.numbers.push(call);

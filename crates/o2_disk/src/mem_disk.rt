@@ -1,9 +1,8 @@
 // A disk in memory: a sparse map of sectors, and a record of all calls.
-ghost use Rattle.std.specs.Prelude.{◌≡◌, ◌≢◌, ◌⊎◌, ℕ, ◌+◌, ◌-◌, ◌*◌, ◌/◌, ◌%◌, ◌<◌, ◌≤◌, ◌^◌, [], ◌∷◌, ◌++◌, length, OnOk, OnErr, IfOk, string_bytes, Some, None, unwrap_or};
+ghost use Rattle.std.specs.Prelude.{◌≡◌, ℕ, ◌+◌, ◌-◌, ◌*◌, ◌/◌, ◌<◌, ◌≤◌, ◌^◌, [], ◌∷◌, ◌++◌, length, OnOk, OnErr, IfOk, string_bytes, Some, None};
 ghost use Rattle.std.specs.Ordering.{nat_cmp};
 ghost use Rattle.std.specs.BTreeMap.{get};
 ghost use Rattle.o2_disk.specs.Image.{IsSector, zero_sector};
-ghost use Rattle.o2_disk.specs.Device.{Rose};
 ghost use Rattle.o2_disk.specs.Stored.{stored};
 ghost use Rattle.o2_disk.specs.Calls.{mem_state, newest, run, start, put_or_zeros};
 ghost use Rattle.o2_disk.specs.Recorded.{counts_now, only_now, shown_is_outcome, has_sectors, is_image};
@@ -39,7 +38,7 @@ pub struct MemDisk {
 }
 
 impl MemDisk {
-    ghost use Rattle.std.specs.Prelude.{◌≡◌, ◌+◌, ◌<◌, [], ◌∷◌, ◌++◌, length, true, IfOk, IsOk, Some, slice_index_or};
+    ghost use Rattle.std.specs.Prelude.{◌≡◌, ◌+◌, ◌<◌, ◌≤◌, [], ◌∷◌, ◌++◌, length, true, IfOk, IsOk, Some, slice_index_or};
     ghost use Rattle.std.specs.List.{Contains};
     ghost use Rattle.o2_disk.specs.Image.{Image, zeros, image_of};
     ghost use Rattle.o2_disk.specs.Device.{IsSettled};
@@ -121,6 +120,7 @@ impl MemDisk {
         requires { length (failing_calls self.old) < 64 }
         ensures there { Contains (failing_calls self.old) call → failing_calls self.new ≡ failing_calls self.old }
         ensures added { (Contains (failing_calls self.old) call → ⊥) → failing_calls self.new ≡ failing_calls self.old ++ call ∷ [] }
+        ensures count { length (failing_calls self.new) ≤ length (failing_calls self.old) + 1 }
         ensures attach { fails_attach self.new ≡ fails_attach self.old }
         ensures disk { SameDisk self.old self.new }
     {
@@ -145,7 +145,7 @@ impl MemDisk {
 }
 
 impl Disk for MemDisk {
-    ghost use Rattle.std.specs.Prelude.{◌≡◌, ◌≢◌, ◌*◌, ℕ, List, length, true, false, IfOk, OnOk, OnErr, IsErrOf, Some, None};
+    ghost use Rattle.std.specs.Prelude.{◌≡◌, ◌*◌, length, false, IfOk, OnOk, OnErr, IsErrOf, Some, None};
     ghost use Rattle.o2_disk.specs.Image.{Image, written, bytes_from, Torn};
     ghost use Rattle.o2_disk.specs.Device.{Told, Follows, Leads, StaysPending, Only, IsRange, IsWritable, SameDevice, Keeps, Elapses, Ticks, HasCause};
     ghost use Rattle.o2_disk.specs.Calls.{RecordsWrite};
@@ -281,3 +281,6 @@ impl Disk for MemDisk {
 
     ghost is_image = { λ m I is. is_image m.sectors m.base m.calls.items m.held m.few m.agrees m.sound I is };
 }
+
+#[cfg(test)]
+mod tests;

@@ -17,7 +17,7 @@ pub struct MemSink {
 }
 
 impl MemSink {
-    ghost use Rattle.std.specs.Prelude.{◌≡◌, ◌<◌, [], ◌∷◌, ◌++◌, length};
+    ghost use Rattle.std.specs.Prelude.{◌≡◌, ◌+◌, ◌<◌, ◌≤◌, [], ◌∷◌, ◌++◌, length};
     ghost use Rattle.std.specs.List.{Contains};
     ghost use Rattle.o2_disk.specs.MemoryOutput.{output, failing_puts, starved_puts, IsFreshSink, SameSink};
 
@@ -39,6 +39,7 @@ impl MemSink {
         requires { length (failing_puts self.old) < 64 }
         ensures there { Contains (failing_puts self.old) put → failing_puts self.new ≡ failing_puts self.old }
         ensures added { (Contains (failing_puts self.old) put → ⊥) → failing_puts self.new ≡ failing_puts self.old ++ put ∷ [] }
+        ensures count { length (failing_puts self.new) ≤ length (failing_puts self.old) + 1 }
         ensures sink { SameSink self.old self.new }
     {
         self.failing.add(put);
@@ -88,5 +89,23 @@ impl Sink for MemSink {
         };
         raise(&mut self.puts);
         Ok(bytes.len())
+    }
+}
+
+#[cfg(test)]
+mod tests {
+    use super::*;
+    use std::test::Fail;
+
+    #[test]
+    fn takes_and_fails(rt: HostRuntime) -> Result<(), Fail> {
+        let mut sink = MemSink::new(rt.alloc());
+        sink.fail_at(1);
+        assert_eq!(rt; sink.put(b"ab")?, 2);
+        assert_eq!(rt; sink.put(b"cd"), Err(Failed));
+        assert_eq!(rt; sink.put(b"e")?, 1);
+        assert_eq!(rt; sink.bytes(), b"abe".as_slice());
+        assert_eq!(rt; sink.starved(), 0);
+        Ok(())
     }
 }

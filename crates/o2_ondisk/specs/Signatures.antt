@@ -1,4 +1,4 @@
--- The letters that say what a block is, as the numbers that their 8 bytes are.
+-- The letters that say what a structure is, as the numbers that their 8 bytes are.
 use Rattle.std.specs.Prelude.{ℕ}
 
 abbrev pub superblock_signature : ℕ

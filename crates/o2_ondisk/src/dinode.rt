@@ -199,4 +199,3 @@ pub fn write_dinode(block: &mut [u8], x: &Dinode)
 {
     put_numbers(block, &DINODE.fields, &dinode_values(x));
 }
-

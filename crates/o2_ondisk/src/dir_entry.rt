@@ -67,4 +67,3 @@ pub fn write_dir_entry(block: &mut [u8], x: &DirEntry)
 {
     put_numbers(block, &DIR_ENTRY.fields, &dir_entry_values(x));
 }
-

@@ -23,7 +23,7 @@ pub const DIR_TRAILER: Layout<5> = Layout {
 /// The fields of `struct ocfs2_dir_block_trailer`, without those of the list of free entries and the check data.
 #[derive(Clone, Copy, Debug, PartialEq, Eq)]
 pub struct DirTrailer {
-    /// 0, so that the trailer is a void entry to who does not know it.
+    /// 0, so that the trailer is a void entry to a reader that does not know it.
     pub inode: u64,
     /// The trailer's length as an entry, 64.
     pub rec_len: u16,
@@ -72,4 +72,3 @@ pub fn write_dir_trailer(block: &mut [u8], x: &DirTrailer)
 {
     put_numbers(block, &DIR_TRAILER.fields, &dir_trailer_values(x));
 }
-

@@ -81,4 +81,3 @@ pub fn write_extent_block(block: &mut [u8], x: &ExtentBlock)
 {
     put_numbers(block, &EXTENT_BLOCK.fields, &extent_block_values(x));
 }
-

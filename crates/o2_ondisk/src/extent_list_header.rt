@@ -61,6 +61,9 @@ pub fn write_extent_list_header(block: &mut [u8], x: &ExtentListHeader)
     // A byte outside all fields stays, within the structure and past it.
     ensures alone { (i : ℕ) → IsOutside extent_list_header_fields i → slice_index block.new i ≡ slice_index block.old i }
 {
-    put_numbers(block, &EXTENT_LIST_HEADER.fields, &extent_list_header_values(x));
+    put_numbers(
+        block,
+        &EXTENT_LIST_HEADER.fields,
+        &extent_list_header_values(x),
+    );
 }
-

@@ -72,11 +72,7 @@ fn extent_rec_values(x: &ExtentRec) -> [u64; 3]
     ensures values { result ≡ extent_rec_numbers x.now }
     ensures fit { Fit EXTENT_REC.fields (extent_rec_numbers x.now) }
 {
-    [
-        wide32(x.cpos),
-        wide32(x.size.0),
-        wide64(x.blkno),
-    ]
+    [wide32(x.cpos), wide32(x.size.0), wide64(x.blkno)]
 }
 
 /// Puts a record's fields. `block` begins where the record does.
@@ -90,4 +86,3 @@ pub fn write_extent_rec(block: &mut [u8], x: &ExtentRec)
 {
     put_numbers(block, &EXTENT_REC.fields, &extent_rec_values(x));
 }
-

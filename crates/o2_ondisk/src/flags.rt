@@ -1,6 +1,6 @@
 // Numbers whose bits each say something.
 ghost use Rattle.std.specs.Prelude.{◌≡◌};
-ghost use Rattle.o2_ondisk.specs.Bits.{has_bits};
+ghost use Rattle.o2_ondisk.specs.Bits.{has_bits, valid_inode_flag, orphaned_inode_flag, system_inode_flag, super_block_inode_flag, local_alloc_inode_flag, bitmap_inode_flag, journal_inode_flag, heartbeat_inode_flag, chain_inode_flag, dealloc_inode_flag, dio_orphaned_inode_flag, inline_data_dyn_feature, has_xattr_dyn_feature, inline_xattr_dyn_feature, indexed_dir_dyn_feature, has_refcount_dyn_feature, unwritten_extent_flag, refcounted_extent_flag, dirty_journal_flag};
 
 /// What an inode is and is for, as `i_flags`.
 #[derive(Clone, Copy, Debug, PartialEq, Eq)]
@@ -110,3 +110,26 @@ impl JournalFlags {
         self.0 & other.0 != 0
     }
 }
+
+/// A law: each flag is the bit that its word says.
+pub fn flags_are_as_told()
+    ensures valid_inode_flag { InodeFlags.VALID ≡ record { 0 = valid_inode_flag } }
+    ensures orphaned_inode_flag { InodeFlags.ORPHANED ≡ record { 0 = orphaned_inode_flag } }
+    ensures system_inode_flag { InodeFlags.SYSTEM ≡ record { 0 = system_inode_flag } }
+    ensures super_block_inode_flag { InodeFlags.SUPER_BLOCK ≡ record { 0 = super_block_inode_flag } }
+    ensures local_alloc_inode_flag { InodeFlags.LOCAL_ALLOC ≡ record { 0 = local_alloc_inode_flag } }
+    ensures bitmap_inode_flag { InodeFlags.BITMAP ≡ record { 0 = bitmap_inode_flag } }
+    ensures journal_inode_flag { InodeFlags.JOURNAL ≡ record { 0 = journal_inode_flag } }
+    ensures heartbeat_inode_flag { InodeFlags.HEARTBEAT ≡ record { 0 = heartbeat_inode_flag } }
+    ensures chain_inode_flag { InodeFlags.CHAIN ≡ record { 0 = chain_inode_flag } }
+    ensures dealloc_inode_flag { InodeFlags.DEALLOC ≡ record { 0 = dealloc_inode_flag } }
+    ensures dio_orphaned_inode_flag { InodeFlags.DIO_ORPHANED ≡ record { 0 = dio_orphaned_inode_flag } }
+    ensures inline_data_dyn_feature { DynFeatures.INLINE_DATA ≡ record { 0 = inline_data_dyn_feature } }
+    ensures has_xattr_dyn_feature { DynFeatures.HAS_XATTR ≡ record { 0 = has_xattr_dyn_feature } }
+    ensures inline_xattr_dyn_feature { DynFeatures.INLINE_XATTR ≡ record { 0 = inline_xattr_dyn_feature } }
+    ensures indexed_dir_dyn_feature { DynFeatures.INDEXED_DIR ≡ record { 0 = indexed_dir_dyn_feature } }
+    ensures has_refcount_dyn_feature { DynFeatures.HAS_REFCOUNT ≡ record { 0 = has_refcount_dyn_feature } }
+    ensures unwritten_extent_flag { ExtentFlags.UNWRITTEN ≡ record { 0 = unwritten_extent_flag } }
+    ensures refcounted_extent_flag { ExtentFlags.REFCOUNTED ≡ record { 0 = refcounted_extent_flag } }
+    ensures dirty_journal_flag { JournalFlags.DIRTY ≡ record { 0 = dirty_journal_flag } }
+{}

@@ -31,7 +31,7 @@ pub use extent_list_header::{
 pub use extent_rec::{
     EXTENT_REC, EXTENT_REC_SIZE, ExtentRec, ExtentSize, read_extent_rec, write_extent_rec,
 };
-pub use flags::{DynFeatures, ExtentFlags, InodeFlags, JournalFlags};
+pub use flags::{DynFeatures, ExtentFlags, InodeFlags, JournalFlags, flags_are_as_told};
 pub use kind::Kind;
 pub use layout::{
     Field, Layout, array_at, numbers_tell_bytes, put_array, put_big_numbers, put_bytes,

@@ -1,9 +1,9 @@
-// The letters that say what a block is.
+// The letters that say what a structure is.
 ghost use Rattle.std.specs.Prelude.{◌≡◌, ◌∷◌, ◌++◌, [], codes};
 ghost use Rattle.byteorder.specs.Endian.{little_number};
 ghost use Rattle.o2_ondisk.specs.Signatures.{superblock_signature, inode_signature, extent_block_signature, group_signature, dx_root_signature, dx_leaf_signature, refcount_block_signature, dir_trailer_signature};
 
-/// The 8 letters at the head of a block, filled up with NUL, as the number that these bytes are.
+/// The letters that say what a structure is, filled up with NUL to 8 bytes, as the number that these are.
 #[derive(Clone, Copy, Debug, PartialEq, Eq)]
 pub struct Signature(pub u64);
 

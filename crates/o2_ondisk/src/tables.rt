@@ -42,3 +42,6 @@ pub fn sizes_are_as_told()
     ensures dir_entry { DIR_ENTRY_SIZE ≡ 0xc }
     ensures dir_trailer { DIR_TRAILER_SIZE ≡ 0x38 }
 {}
+
+#[cfg(test)]
+mod tests;

@@ -1,4 +1,4 @@
-use Rattle.std.proofs.Common.{ℕ, ◌/◌, length, rules, arith}
+use Rattle.std.proofs.Common.{rules}
 use Rattle.o2_disk.specs.Stored.{stored}
 use Rattle.o2_disk.proofs.Puts.{cleared}
 use Rattle.o2_disk.proofs.kept.keep.Goals as goal

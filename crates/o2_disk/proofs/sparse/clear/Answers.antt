@@ -1,6 +1,6 @@
-use Rattle.std.proofs.Common.{◌≡◌, ℕ, Some, IsSome, ◌∙◌, ap, arith, nat_cmp}
+use Rattle.std.proofs.Common.{ℕ, Some, ◌∙◌, ap, arith, nat_cmp}
 use Rattle.std.specs.BTreeMap.{get}
-use Rattle.std.specs.Prelude.{Option, List}
+use Rattle.std.specs.Prelude.{List}
 use Rattle.o2_disk.specs.Image.{zero_sector}
 use Rattle.o2_disk.specs.Stored.{stored}
 use Rattle.o2_disk.proofs.Copies.{clear_more, keys_set}

@@ -1,4 +1,4 @@
-use Rattle.std.proofs.Common.{◌≡◌, ℕ, ◌<◌, ◌≤◌, ◌&&◌, nat_lt, nat_le, if◌then◌else◌, None, nat_cmp}
+use Rattle.std.proofs.Common.{◌≡◌, ℕ, ◌&&◌, nat_lt, nat_le, if◌then◌else◌, None, nat_cmp}
 use Rattle.std.specs.BTreeMap.{get}
 use Rattle.o2_disk.specs.Image.{zero_sector}
 use Rattle.o2_disk.specs.Stored.{stored}

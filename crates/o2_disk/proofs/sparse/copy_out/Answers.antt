@@ -1,4 +1,4 @@
-use Rattle.std.proofs.Common.{◌≡◌, ℕ, ◌+◌, ◌-◌, ◌*◌, List, ◌∙◌, arith, length}
+use Rattle.std.proofs.Common.{◌+◌, ◌-◌, ◌*◌, ◌∙◌, arith}
 use Rattle.o2_disk.specs.Stored.{stored}
 use Rattle.o2_disk.proofs.Copies.{copied_more}
 use Rattle.o2_disk.proofs.sparse.copy_out.Goals as goal

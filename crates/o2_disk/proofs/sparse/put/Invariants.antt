@@ -1,4 +1,4 @@
-use Rattle.std.proofs.Common.{◌≡◌, ℕ, ◌+◌, ◌-◌, ◌*◌, ◌/◌, ◌<◌, ◌≤◌, ◌&&◌, nat_lt, nat_le, if◌then◌else◌, length, IsSome, None, nat_cmp}
+use Rattle.std.proofs.Common.{◌≡◌, ℕ, ◌+◌, ◌-◌, ◌/◌, ◌<◌, ◌≤◌, ◌&&◌, nat_lt, nat_le, if◌then◌else◌, length, IsSome, None, nat_cmp}
 use Rattle.std.specs.BTreeMap.{get}
 use Rattle.o2_disk.specs.Image.{piece}
 use Rattle.o2_disk.specs.Stored.{stored}

@@ -1,5 +1,4 @@
-use Rattle.std.proofs.Common.{◌≡◌, take, arith, ap, length}
-use Rattle.std.specs.Prelude.{List, ℕ}
+use Rattle.std.proofs.Common.{take, arith, ap, length}
 use Rattle.o2_disk.specs.Recorded.{some_choice}
 use Rattle.o2_disk.proofs.Left.{choices_more}
 use Rattle.o2_disk.proofs.stopped.choices_of.Goals as goal

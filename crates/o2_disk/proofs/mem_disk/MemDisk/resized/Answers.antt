@@ -1,4 +1,4 @@
-use Rattle.std.proofs.Common.{subst, arith}
+use Rattle.std.proofs.Common.{subst}
 use Rattle.o2_disk.specs.Image.{Image}
 use Rattle.o2_disk.specs.Device.{IsSettled}
 use Rattle.o2_disk.specs.Memory.{disk_state}

@@ -1,4 +1,4 @@
-use Rattle.std.proofs.Common.{◌≡◌, refl, arith}
+use Rattle.std.proofs.Common.{refl, arith}
 use Rattle.std.specs.Prelude.{string_bytes}
 use Rattle.o2_disk.specs.declared.call.Call.TheVariants.{Read}
 use Rattle.o2_disk.proofs.Noted.{agrees_more, touched_more, elapses_more, keeps_plain, pending_plain, bytes_read}

@@ -1,5 +1,5 @@
-use Rattle.std.proofs.Common.{◌≡◌, ℕ, refl, ◌∙◌, arith}
-use Rattle.std.specs.Prelude.{string_bytes, get_or}
+use Rattle.std.proofs.Common.{arith}
+use Rattle.std.specs.Prelude.{string_bytes}
 use Rattle.o2_disk.proofs.Noted.{agrees_write, touched_write, sound_write, elapses_more, content_written, told_write, pending_write, follows_write, leads_write}
 use Rattle.o2_disk.proofs.mem_disk.MemDiskDisk.write.Goals as goal
 
