@@ -16,3 +16,6 @@ pub use inode_records::records;
 pub use leaf::{Leaf, Leaves};
 pub use maps::map_cluster;
 pub use runs::{ExtentList, list_of_runs};
+
+#[cfg(test)]
+mod tests;
