@@ -5,3 +5,11 @@ pub mod Label
 pub mod Names
 pub mod Geometry
 pub mod Volume
+pub mod Words
+pub mod Clusters
+pub mod Extents
+pub mod Inodes
+pub mod Directories
+pub mod Contents
+pub mod Checks
+pub mod Frames

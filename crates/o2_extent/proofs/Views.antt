@@ -1,0 +1,44 @@
+-- Calls that only read, one after the other.
+use Rattle.std.proofs.Common.{◌≡◌, ℕ, ◌≤◌, List, length, refl, sym, ◌∙◌, arith}
+use Rattle.o2_disk.specs.Device.{SameDevice}
+use Rattle.o2_disk.specs.declared.disk.Disk as disk
+use Rattle.o2_disk.proofs.Moments.{reads_none, reads_both}
+use Rattle.o2_model.specs.declared.geo.Geo.{Geo}
+use Rattle.o2_view.specs.Views.{view_state, SameView}
+use Rattle.o2_view.specs.declared.view.View.{View}
+use Rattle.o2_extent.specs.Seen.{LiesIn}
+use Rattle.o2_extent.specs.Reads.{OnlyReads}
+use Rattle.o2_extent.specs.Readings.{LooksAtMost}
+
+module _ {D : Type 0} {N : ℕ} {g : disk.Ghosts D} where
+  pub only_none : (view : View D N g) → OnlyReads view view
+  only_none view = record {
+    reads = reads_none (view_state view);
+    device = record { name = refl; attached = refl; sectors = refl };
+    same = record { bits = refl; blocks = refl; disk = refl };
+    later = omega arith;
+  }
+
+  pub only_both : {old mid new : View D N g} → OnlyReads old mid → OnlyReads mid new → OnlyReads old new
+  only_both {old} {mid} {new} a b = record {
+    reads = reads_both a.reads b.reads;
+    device = record {
+      name = b.device.name ∙ a.device.name;
+      attached = b.device.attached ∙ a.device.attached;
+      sectors = b.device.sectors ∙ a.device.sectors;
+    };
+    same = record { bits = b.same.bits ∙ a.same.bits; blocks = b.same.blocks ∙ a.same.blocks; disk = b.same.disk ∙ a.same.disk };
+    later = omega (arith, a.later, b.later);
+  }
+
+  pub still_in : {geo : Geo} {old new : View D N g} → LiesIn geo old → OnlyReads old new → LiesIn geo new
+  still_in {geo} {old} {new} h only = record { sizes = h.sizes; bits = h.bits ∙ sym only.same.bits; within = omega (arith, h.within, only.same.blocks) }
+
+  pub looks_none : (seen : List ℕ) (view : View D N g) → LooksAtMost seen seen view view
+  looks_none seen view = record { grew = omega arith; calls = λ I told. omega arith }
+
+  pub looks_both : {xs ys zs : List ℕ} {old mid new : View D N g} → OnlyReads old mid → LooksAtMost xs ys old mid → LooksAtMost ys zs mid new → LooksAtMost xs zs old new
+  looks_both {xs} {ys} {zs} {old} {mid} {new} only a b = record {
+    grew = omega (arith, a.grew, b.grew);
+    calls = λ I told. omega (arith, a.calls I told, b.calls I (only.reads.content ∙ told));
+  }

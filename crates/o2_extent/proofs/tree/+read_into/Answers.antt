@@ -1,0 +1,63 @@
+-- One record more, or the bad one.
+use Rattle.std.proofs.Common.{◌≡◌, ◌+◌, ◌-◌, drop, get_or, sym, ◌∙◌, ap, subst, arith}
+use Rattle.std.proofs.lemmas.List.{drop_all}
+use Rattle.o2_model.specs.Words.{Apart}
+use Rattle.o2_model.specs.Extents.{read_records, records_in_block, with_met, with_seen}
+use Rattle.o2_extent.specs.Seen.{volume_seen}
+use Rattle.o2_extent.specs.Readings.{Keeps}
+use Rattle.o2_extent.proofs.Steps.{first_left, entered_block}
+use Rattle.o2_extent.proofs.Views.{only_both, looks_both}
+use Rattle.o2_extent.proofs.tree.+read_into.Goals as goal
+
+pub returns-then-depth-eq0-clause-read : goal.returns-then-depth-eq0-clause-read
+returns-then-depth-eq0-clause-read g m c I told t k =
+    subst (λ d. Keeps c.read_leaves.new.reading (read_records (volume_seen c.args.geo.now I) c.args.most_flags d c.args.holder 0 c.args.records.now t)) (sym c.if-depth-eq0.true) (c.in_ok-read_leaves.ensures.read I t k)
+
+pub returns-in-None-clause-read : goal.returns-in-None-clause-read
+returns-in-None-clause-read g m c I told t k =
+    let v = volume_seen c.args.geo.now I in
+    let rs = c.args.records.now in
+    let i = c.loop-r.r-index in
+    let left = c.loop-r.invariant.read I told t k in
+    let bad = rw c.in-None.is at c.in_ok-below.ensures.bad in
+    subst (Keeps _)
+    (sym (first_left v c.args.most_flags c.args.depth c.args.holder c.loop-r.low rs i _ left.now c.loop-r-test.true) ∙ left.gives)
+    (bad I (c.loop-r.invariant.reads.reads.content ∙ told) c.args.most_flags (drop (i + 1) rs) left.now left.keeps)
+
+pub returns-clause-read : goal.returns-clause-read
+returns-clause-read g m c I told t k =
+    let left = c.loop-r.invariant.read I told t k in
+    subst (Keeps c.loop-r.reading)
+    (sym (ap (λ rs. read_records (volume_seen c.args.geo.now I) c.args.most_flags c.args.depth c.args.holder c.loop-r.low rs left.now) (drop_all c.loop-r.r-index c.args.records.now c.loop-r-test.false)) ∙ left.gives)
+    left.keeps
+
+pub loop-r-preserved : goal.loop-r-preserved
+loop-r-preserved g m c = record {
+  read = λ I told t k.
+      let v = volume_seen c.args.geo.now I in
+      let rs = c.args.records.now in
+      let i = c.loop-r.r-index in
+      let depth = c.args.depth in
+      let left = c.loop-r.invariant.read I told t k in
+      let told1 = c.loop-r.invariant.reads.reads.content ∙ told in
+      let told2 = c.enter.ensures.reads.reads.content ∙ told1 in
+      let good = rw c.in-Some.is at c.in_ok-below.ensures.good in
+      let enters = good I told1 left.now left.keeps in
+      let r = get_or rs i _ in
+      let met = with_met v r.blkno (with_seen left.now r.blkno) in
+      let records = c.as_slice.ensures.value ∙ enters.records in
+      record {
+        now = read_records v c.args.most_flags (depth - 1) r.blkno 0 (records_in_block v r.blkno) met;
+        keeps = rw records at (c.in_ok-read_into.ensures.read I told2 met enters.keeps);
+        gives = rw c.from-low.ensures
+            (sym (entered_block v c.args.most_flags depth c.args.holder c.loop-r.low r (drop (i + 1) rs) left.now (omega arith) enters.names enters.is_one)
+            ∙ (sym (first_left v c.args.most_flags depth c.args.holder c.loop-r.low rs i _ left.now c.loop-r-test.true) ∙ left.gives));
+      };
+  apart = λ h.
+      let h1 = c.loop-r.invariant.apart h in
+      let h2 = c.enter.ensures.apart (subst (λ n. Apart n c.loop-r.reading.seen.items) (sym c.loop-r.invariant.reads.same.blocks) h1) in
+      subst (λ n. Apart n c.read_into.new.reading.seen.items) (c.enter.ensures.reads.same.blocks ∙ c.loop-r.invariant.reads.same.blocks)
+      (c.read_into.ensures.apart (subst (λ n. Apart n c.enter.new.reading.seen.items) (sym c.enter.ensures.reads.same.blocks) h2));
+  count = looks_both (only_both c.loop-r.invariant.reads c.enter.ensures.reads) (looks_both c.loop-r.invariant.reads c.loop-r.invariant.count c.enter.ensures.count) c.read_into.ensures.count;
+  reads = only_both (only_both c.loop-r.invariant.reads c.enter.ensures.reads) c.read_into.ensures.reads;
+}

@@ -1,0 +1,22 @@
+-- From what is read so far the records left give what all give from the start.
+use Rattle.std.proofs.Common.{◌≡◌, ℕ, Some, drop}
+use Rattle.o2_disk.specs.Image.{Image}
+use Rattle.o2_view.specs.Views.{view_state, view_blocks}
+use Rattle.o2_model.specs.Words.{Apart}
+use Rattle.o2_model.specs.Extents.{Extents, read_records}
+use Rattle.o2_extent.specs.Seen.{volume_seen}
+use Rattle.o2_extent.specs.Reads.{OnlyReads}
+use Rattle.o2_extent.specs.Readings.{Keeps, Left, LooksAtMost}
+use Rattle.o2_extent.proofs.tree.+read_into.Given as goal
+
+abbrev pub invariant-loop-r : goal.invariant-loop-r
+invariant-loop-r g l = record {
+  read : (I : Image) → (view_state l.fn.view).content ≡ Some I → (t : Extents) → Keeps l.fn.reading t
+      → Left (volume_seen l.geo I) l.most_flags l.depth l.holder l.low (drop l.r-index l.records) l.reading (read_records (volume_seen l.geo I) l.most_flags l.depth l.holder 0 l.records t);
+  apart : Apart (view_blocks l.fn.view) l.fn.reading.seen.items → Apart (view_blocks l.fn.view) l.reading.seen.items;
+  count : LooksAtMost l.fn.reading.seen.items l.reading.seen.items l.fn.view l.view;
+  reads : OnlyReads l.fn.view l.view;
+}
+
+abbrev pub decreases-read_into : goal.decreases-read_into
+decreases-read_into g l = l.depth

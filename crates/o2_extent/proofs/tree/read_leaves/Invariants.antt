@@ -1,0 +1,14 @@
+-- From what is read so far the records left give what all give from the start.
+use Rattle.std.proofs.Common.{◌≡◌, ℕ, drop}
+use Rattle.o2_disk.specs.Image.{Image}
+use Rattle.o2_model.specs.Extents.{Extents, read_records}
+use Rattle.o2_extent.specs.Seen.{volume_seen}
+use Rattle.o2_extent.specs.Readings.{Keeps, Left}
+use Rattle.o2_extent.proofs.tree.read_leaves.Given as goal
+
+abbrev pub invariant-loop-r : goal.invariant-loop-r
+invariant-loop-r l = record {
+  read : (I : Image) (t : Extents) → Keeps l.fn.reading t
+      → Left (volume_seen l.geo I) l.most_flags 0 l.holder 0 (drop l.r-index l.records) l.reading (read_records (volume_seen l.geo I) l.most_flags 0 l.holder 0 l.records t);
+  seen : l.reading.seen ≡ l.fn.reading.seen;
+}

@@ -1,0 +1,4 @@
+pub mod Seen
+pub mod Reads
+pub mod Readings
+pub mod Maps

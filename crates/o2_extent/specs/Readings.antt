@@ -1,0 +1,52 @@
+-- What was read of a tree, as the reader keeps it.
+use Rattle.std.specs.Prelude.{◌≡◌, ℕ, ◌+◌, ◌-◌, ◌*◌, ◌≤◌, true, List, ◌∷◌, length, map, Some}
+use Rattle.o2_disk.specs.Image.{Image}
+use Rattle.o2_disk.specs.declared.disk.Disk as disk
+use Rattle.o2_ondisk.specs.declared.extent_rec.ExtentRec.{ExtentRec}
+use Rattle.o2_model.specs.Volume.{Volume}
+use Rattle.o2_model.specs.Extents.{Extents, leaf_clusters, leaf_flags, end_of, names_new_block, is_extent_block, records_in_block, with_met, with_seen, with_fault, read_records}
+use Rattle.o2_view.specs.Views.{view_state}
+use Rattle.o2_view.specs.declared.view.View.{View}
+use Rattle.o2_extent.specs.declared.leaf.Leaf.{Leaf}
+use Rattle.o2_extent.specs.declared.reading.Reading.{Reading}
+
+-- a record of a leaf list, its fields apart
+abbrev pub leaf_of : ExtentRec → Leaf
+leaf_of r = record { cpos = r.cpos; clusters = leaf_clusters r; block = r.blkno; flags = leaf_flags r }
+
+-- the reader keeps this reading
+pub record Keeps (reading : Reading) (t : Extents) : Type 0 where
+  pub leaves : reading.leaves.items ≡ map leaf_of t.leaves
+  pub end : reading.end ≡ end_of t.leaves
+  pub seen : reading.seen.items ≡ t.seen
+  pub faults : reading.faults.items ≡ t.faults
+
+-- The reader keeps a reading from which the records left give this whole.
+pub record Left (v : Volume) (most_flags depth holder low : ℕ) (left : List ExtentRec) (reading : Reading) (whole : Extents) : Type 0 where
+  pub now : Extents
+  pub keeps : Keeps reading now
+  pub gives : read_records v most_flags depth holder low left now ≡ whole
+
+-- After a record of a leaf list the reader keeps a reading from which the records left give what they give with it.
+pub record GoesOn (v : Volume) (most_flags : ℕ) (t : Extents) (r : ExtentRec) (reading : Reading) : Type 0 where
+  pub now : Extents
+  pub keeps : Keeps reading now
+  pub gives : (holder low : ℕ) (rs : List ExtentRec) → read_records v most_flags 0 holder low (r ∷ rs) t ≡ read_records v most_flags 0 holder low rs now
+
+-- A record of a leaf list is bad, and the reader keeps what it kept.
+pub record Stops (v : Volume) (most_flags : ℕ) (t : Extents) (r : ExtentRec) (reading : Reading) : Type 0 where
+  pub keeps : Keeps reading t
+  pub gives : (holder low : ℕ) (rs : List ExtentRec) → read_records v most_flags 0 holder low (r ∷ rs) t ≡ with_fault t holder
+
+-- A record of a list of this depth names the block of the next list, which was looked at and has these records.
+pub record Enters (v : Volume) (depth low : ℕ) (t : Extents) (r : ExtentRec) (reading : Reading) (below : List ExtentRec) : Type 0 where
+  pub names : names_new_block v low t.seen r ≡ true
+  pub is_one : is_extent_block v (depth - 1) r.blkno ≡ true
+  pub records : below ≡ records_in_block v r.blkno
+  pub keeps : Keeps reading (with_met v r.blkno (with_seen t r.blkno))
+
+module _ {D : Type 0} {N : ℕ} {g : disk.Ghosts D} where
+  -- Where the disk tells its content, it was called at most once for each block that was looked at.
+  pub record LooksAtMost (seen_before seen : List ℕ) (old new : View D N g) : Type 0 where
+    pub grew : length seen_before ≤ length seen
+    pub calls : (I : Image) → (view_state old).content ≡ Some I → (view_state new).moment + length seen_before ≤ (view_state old).moment + length seen

@@ -1,0 +1,87 @@
+// What was read of a tree so far.
+ghost use Rattle.std.specs.Prelude.{◌≡◌, [], OnOk, is_ok, if◌then◌else◌};
+ghost use Rattle.o2_disk.specs.Image.{Image};
+ghost use Rattle.o2_model.specs.Words.{among, push};
+ghost use Rattle.o2_model.specs.Extents.{Extents, is_sound_leaf, with_leaf, with_seen, with_fault, nothing_read};
+ghost use Rattle.o2_extent.specs.Seen.{HasSizes, volume_seen};
+ghost use Rattle.o2_extent.specs.Readings.{Keeps};
+
+use crate::Leaf;
+use crate::geometry::are_whole_clusters_in_range;
+use crate::list::put;
+use o2_disk::NoMemory;
+use o2_model::Geo;
+use o2_ondisk::ExtentRec;
+use std::alloc::Global;
+
+/// What was read of a tree so far, in order.
+#[derive(Debug, Drop)]
+pub struct Reading {
+    /// The leaf records with clusters.
+    pub leaves: Vec<Leaf>,
+    /// The cluster of the inode behind the last of them.
+    pub end: u64,
+    /// The blocks that were looked at as extent blocks.
+    pub seen: Vec<u64>,
+    /// The blocks whose lists are not well formed.
+    pub faults: Vec<u64>,
+}
+
+/// Nothing was read yet.
+pub fn start(alloc: Global) -> Reading
+    ensures keeps { Keeps result nothing_read }
+    ensures seen { result.seen.items ≡ [] }
+{
+    Reading {
+        leaves: Vec::new(alloc),
+        end: 0,
+        seen: Vec::new(alloc),
+        faults: Vec::new(alloc),
+    }
+}
+
+/// Adds a leaf record.
+pub fn add_leaf(reading: &mut Reading, r: &ExtentRec) -> Result<(), NoMemory>
+    ensures added { OnOk result ((t : Extents) → Keeps reading.old t → Keeps reading.new (with_leaf t r.now)) }
+    ensures seen { reading.new.seen ≡ reading.old.seen }
+{
+    put(&mut reading.leaves, Leaf::of_record(r))?;
+    reading.end = u64::from(r.cpos) + u64::from(r.size.leaf_clusters());
+    Ok(())
+}
+
+/// Adds a block whose list is not well formed.
+pub fn add_fault(reading: &mut Reading, b: u64) -> Result<(), NoMemory>
+    ensures added { OnOk result ((t : Extents) → Keeps reading.old t → Keeps reading.new (with_fault t b)) }
+    ensures seen { reading.new.seen ≡ reading.old.seen }
+{
+    put(&mut reading.faults, b)
+}
+
+/// Adds a block that is looked at.
+pub fn add_seen(reading: &mut Reading, b: u64) -> Result<(), NoMemory>
+    ensures added { OnOk result ((t : Extents) → Keeps reading.old t → Keeps reading.new (with_seen t b)) }
+    ensures seen { reading.new.seen.items ≡ (if is_ok result then push reading.old.seen.items b else reading.old.seen.items) }
+{
+    put(&mut reading.seen, b)
+}
+
+/// Whether the block was looked at.
+pub fn has_seen(reading: &Reading, b: u64) -> bool
+    ensures { result ≡ among reading.now.seen.items b }
+{
+    reading.seen.contains(&b)
+}
+
+/// Whether a record of a leaf list may follow those that end at cluster `low`.
+#[tactic(auto, unfolding(o2_model::specs::Extents::is_sound_leaf))]
+pub fn is_sound_record(geo: &Geo, most_flags: u8, low: u64, r: &ExtentRec) -> bool
+    requires { HasSizes geo.now }
+    ensures { (I : Image) → result ≡ is_sound_leaf (volume_seen geo.now I) most_flags low r.now }
+{
+    let cpos = u64::from(r.cpos);
+    let clusters = u64::from(r.size.leaf_clusters());
+    let flags = r.size.flags().0;
+    let fits = are_whole_clusters_in_range(geo, r.blkno, clusters);
+    low <= cpos && cpos + clusters < 0x1_0000_0000 && fits && flags <= most_flags
+}

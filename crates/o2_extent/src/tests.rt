@@ -1,0 +1,184 @@
+// Each call once, on a disk in memory.
+ghost use Rattle.std.specs.Prelude.{◌+◌, ◌≤◌, length};
+
+use crate::{Leaf, Leaves, list_of_runs, map_cluster, records};
+use o2_disk::{Disk, How, MemDisk};
+use o2_ondisk::{
+    Dinode, DxSeed, ExtentBlock, ExtentListHeader, ExtentRec, ExtentSize, Signature, read_dinode,
+    write_dinode, write_extent_block, write_extent_list_header, write_extent_rec,
+};
+use o2_view::{Check, Geo, ReadFault, Run, View};
+use std::test::Fail;
+
+// A volume of 40 clusters of 4 KiB, with blocks of 1 KiB.
+fn numbers() -> Geo {
+    Geo {
+        block_bits: 10,
+        cluster_bits: 12,
+        clusters: 40,
+        slots: 1,
+        root: 5,
+        sysdir: 6,
+        first_group: 4,
+        generation: 7,
+        compat: 0,
+        incompat: 0,
+        seed: DxSeed {
+            first: 0,
+            second: 0,
+            third: 0,
+        },
+    }
+}
+
+// A list of this depth with two records, which begins at byte `at`.
+fn put_list(bytes: &mut [u8], at: usize, depth: u16, first: &ExtentRec, second: &ExtentRec)
+    requires { at + 48 ≤ length bytes.old }
+{
+    let header = ExtentListHeader {
+        tree_depth: depth,
+        count: 4,
+        next_free_rec: 2,
+    };
+    write_extent_list_header(&mut bytes[at..], &header);
+    write_extent_rec(&mut bytes[at + 16..], first);
+    write_extent_rec(&mut bytes[at + 32..], second);
+}
+
+// The dinode of a file, without its list.
+fn file() -> Dinode {
+    Dinode {
+        signature: Signature::INODE01,
+        clusters: 5,
+        size: 20000,
+        mode: 0o100644,
+        blkno: 8,
+        fs_generation: 7,
+        ..read_dinode(&[0; 192])
+    }
+}
+
+// An extent block, without its list.
+fn extent_block(blkno: u64) -> ExtentBlock {
+    ExtentBlock {
+        signature: Signature::EXBLK01,
+        suballoc_slot: 0,
+        suballoc_bit: 0,
+        fs_generation: 7,
+        blkno,
+        suballoc_loc: 0,
+        next_leaf_blk: 0,
+    }
+}
+
+fn record(cpos: u32, size: u32, blkno: u64) -> ExtentRec {
+    ExtentRec {
+        cpos,
+        size: ExtentSize(size),
+        blkno,
+    }
+}
+
+fn leaf(cpos: u32, clusters: u32, block: u64, flags: u8) -> Leaf {
+    Leaf {
+        cpos,
+        clusters,
+        block,
+        flags,
+    }
+}
+
+#[test]
+fn reads_the_records_of_a_file(rt: HostRuntime) -> Result<(), Fail> {
+    let alloc = rt.alloc();
+    let mut disk = MemDisk::new(alloc, 320)?;
+    disk.attach(alloc, "disk", How::ReadWrite)?;
+    let mut dinode = [0; 1024];
+    write_dinode(&mut dinode, &file());
+    put_list(&mut dinode, 0xc0, 1, &record(0, 6, 9), &record(6, 2, 10));
+    disk.write(16, &dinode)?;
+    let mut first = [0; 1024];
+    write_extent_block(&mut first, &extent_block(9));
+    put_list(
+        &mut first,
+        0x30,
+        0,
+        &record(0, 2, 40),
+        &record(4, 0x0100_0002, 80),
+    );
+    disk.write(18, &first)?;
+    let mut second = [0; 1024];
+    write_extent_block(&mut second, &extent_block(10));
+    put_list(
+        &mut second,
+        0x30,
+        0,
+        &record(6, 0, 0),
+        &record(7, 0x0200_0001, 120),
+    );
+    disk.write(20, &second)?;
+    let mut view = View::<MemDisk, 1>::new(alloc, &mut disk, 10, 160)?;
+    let leaves = records(alloc, &mut view, &numbers(), 8)?;
+    let found = leaves.as_slice();
+    assert_eq!(rt; found.len(), 3);
+    assert_eq!(rt; found[0], leaf(0, 2, 40, 0));
+    assert_eq!(rt; found[1], leaf(4, 2, 80, 1));
+    assert_eq!(rt; found[2], leaf(7, 1, 120, 2));
+    Ok(())
+}
+
+#[test]
+fn tells_a_tree_that_leads_back(rt: HostRuntime) -> Result<(), Fail> {
+    let alloc = rt.alloc();
+    let mut disk = MemDisk::new(alloc, 320)?;
+    disk.attach(alloc, "disk", How::ReadWrite)?;
+    let mut dinode = [0; 1024];
+    write_dinode(&mut dinode, &file());
+    put_list(&mut dinode, 0xc0, 2, &record(0, 6, 9), &record(6, 2, 9));
+    disk.write(16, &dinode)?;
+    let mut inner = [0; 1024];
+    write_extent_block(&mut inner, &extent_block(9));
+    put_list(&mut inner, 0x30, 1, &record(0, 2, 9), &record(4, 2, 9));
+    disk.write(18, &inner)?;
+    let mut view = View::<MemDisk, 1>::new(alloc, &mut disk, 10, 160)?;
+    let answer = match records(alloc, &mut view, &numbers(), 8) {
+        Ok(_) => None,
+        Err(fault) => Some(fault),
+    };
+    let bad = ReadFault::Bad {
+        check: Check::Extent,
+        block: 8,
+    };
+    assert_eq!(rt; answer, Some(bad));
+    Ok(())
+}
+
+#[test]
+fn maps_clusters(rt: HostRuntime) -> Result<(), Fail> {
+    let alloc = rt.alloc();
+    let leaves = Leaves::from(vec![in alloc; leaf(0, 2, 40, 0), leaf(4, 2, 80, 1)]?);
+    assert_eq!(rt; map_cluster(&leaves, 4, 1), Some(44));
+    assert_eq!(rt; map_cluster(&leaves, 4, 3), None);
+    assert_eq!(rt; map_cluster(&leaves, 4, 5), Some(84));
+    Ok(())
+}
+
+#[test]
+fn lists_runs(rt: HostRuntime) -> Result<(), Fail> {
+    let runs = [
+        Run {
+            start: 3,
+            clusters: 2,
+        },
+        Run {
+            start: 9,
+            clusters: 1,
+        },
+    ];
+    let list = list_of_runs(&numbers(), &runs);
+    let found = list.as_slice();
+    assert_eq!(rt; found.len(), 2);
+    assert_eq!(rt; found[0], leaf(0, 2, 12, 0));
+    assert_eq!(rt; found[1], leaf(2, 1, 36, 0));
+    Ok(())
+}

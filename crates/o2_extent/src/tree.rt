@@ -1,0 +1,217 @@
+// The tree of extents under a list.
+ghost use Rattle.std.specs.Prelude.{◌≡◌, ◌+◌, ◌-◌, ◌*◌, ◌^◌, ◌≤◌, ◌<◌, ◌∷◌, ℕ, List, length, Some, true, false, OnOk, IfOk, IsErrOf};
+ghost use Rattle.std.specs.Option.{IfNone, IfSome};
+ghost use Rattle.o2_disk.specs.Image.{Image, block_at};
+ghost use Rattle.o2_disk.specs.Device.{Rose};
+ghost use Rattle.o2_view.specs.Counted.{CallsAtMost};
+ghost use Rattle.o2_view.specs.Views.{view_state, view_blocks};
+ghost use Rattle.o2_ondisk.specs.declared.extent_rec.ExtentRec.{ExtentRec as Record};
+ghost use Rattle.o2_model.specs.Words.{Apart};
+ghost use Rattle.o2_model.specs.Extents.{Extents, is_extent_block, names_new_block, with_met, records_in_block, read_records};
+ghost use Rattle.o2_extent.specs.Seen.{HasSizes, LiesIn, volume_seen};
+ghost use Rattle.o2_extent.specs.Reads.{OnlyReads};
+ghost use Rattle.o2_extent.specs.Readings.{Keeps, GoesOn, Stops, Enters, LooksAtMost};
+
+use crate::geometry::{block_bytes, is_block_in_range};
+use crate::list::{header_at, is_sound, records_at};
+use crate::reading::{Reading, add_fault, add_leaf, add_seen, has_seen, is_sound_record};
+use o2_disk::{Disk, NoMemory};
+use o2_model::Geo;
+use o2_ondisk::{ExtentRec, Signature, read_extent_block};
+use o2_view::{Block, View, ViewFault};
+use std::alloc::Global;
+
+/// Reads one record of a leaf list. False where it is bad.
+fn read_leaf(
+    geo: &Geo,
+    most_flags: u8,
+    r: &ExtentRec,
+    reading: &mut Reading,
+) -> Result<bool, NoMemory>
+    requires { HasSizes geo.now }
+    ensures good { IfOk result (λ good. good ≡ true → (I : Image) (t : Extents) → Keeps reading.old t → GoesOn (volume_seen geo.now I) most_flags t r.now reading.new) }
+    ensures bad { IfOk result (λ good. good ≡ false → (I : Image) (t : Extents) → Keeps reading.old t → Stops (volume_seen geo.now I) most_flags t r.now reading.new) }
+    ensures seen { reading.new.seen ≡ reading.old.seen }
+{
+    if r.size.leaf_clusters() == 0 {
+        return Ok(true);
+    }
+    if !is_sound_record(geo, most_flags, reading.end, r) {
+        return Ok(false);
+    }
+    add_leaf(reading, r)?;
+    Ok(true)
+}
+
+/// Reads the records of a leaf list.
+fn read_leaves(
+    geo: &Geo,
+    most_flags: u8,
+    holder: u64,
+    records: &[ExtentRec],
+    reading: &mut Reading,
+) -> Result<(), NoMemory>
+    requires { HasSizes geo.now }
+    ensures read { OnOk result ((I : Image) (t : Extents) → Keeps reading.old t
+        → Keeps reading.new (read_records (volume_seen geo.now I) most_flags 0 holder 0 records.now t)) }
+    ensures seen { reading.new.seen ≡ reading.old.seen }
+{
+    for r in records {
+        if !read_leaf(geo, most_flags, r, reading)? {
+            return add_fault(reading, holder);
+        }
+    }
+    Ok(())
+}
+
+/// The bytes of a block of the volume.
+pub fn look<D: Disk, const N: usize>(
+    view: &mut View<'_, D, N>,
+    geo: &Geo,
+    b: u64,
+) -> Result<Block, ViewFault>
+    requires geo { LiesIn geo.now view.old }
+    requires inside { b < view_blocks view.old }
+    ensures bytes { IfOk result (λ block. (I : Image) → (view_state view.old).content ≡ Some I → block ≡ block_at (2 ^ geo.now.block_bits) I b) }
+    ensures size { IfOk result (λ block. length block ≡ 2 ^ geo.now.block_bits) }
+    ensures long { IfOk result (λ block. 512 ≤ length block) }
+    ensures count { CallsAtMost 1 (view_state view.old) (view_state view.new) }
+    ensures reads { OnlyReads view.old view.new }
+    ensures fault { IsErrOf result ViewFault.DeviceFault → Rose (view_state view.old).faults (view_state view.new).faults }
+{
+    let _bytes = block_bytes(geo);
+    view.block(b)
+}
+
+/// Whether these bytes of block b are an extent block with a list of this depth.
+#[tactic(auto, unfolding(o2_model::specs::Extents::is_extent_block))]
+fn has_extent_block(geo: &Geo, depth: u16, b: u64, bytes: &[u8]) -> bool
+    requires { 512 ≤ length bytes.now }
+    ensures { (I : Image) → bytes.now ≡ block_at (2 ^ geo.now.block_bits) I b → result ≡ is_extent_block (volume_seen geo.now I) depth b }
+{
+    let block = read_extent_block(bytes);
+    let header = header_at(bytes, 0x30);
+    block.signature.0 == Signature::EXBLK01.0
+        && block.blkno == b
+        && block.fs_generation == geo.generation
+        && header.tree_depth == depth
+}
+
+/// The records of the list in an extent block, which is at fault where the list's head is.
+#[tactic(auto, unfolding(o2_model::specs::Extents::with_met, o2_model::specs::Extents::records_in_block))]
+fn meet(
+    alloc: Global,
+    geo: &Geo,
+    b: u64,
+    bytes: &[u8],
+    reading: &mut Reading,
+) -> Result<Vec<ExtentRec>, NoMemory>
+    requires sizes { HasSizes geo.now }
+    requires long { length bytes.now ≡ 2 ^ geo.now.block_bits }
+    ensures records { IfOk result (λ records. (I : Image) → bytes.now ≡ block_at (2 ^ geo.now.block_bits) I b
+        → records.items ≡ records_in_block (volume_seen geo.now I) b) }
+    ensures met { OnOk result ((I : Image) → bytes.now ≡ block_at (2 ^ geo.now.block_bits) I b
+        → (t : Extents) → Keeps reading.old t → Keeps reading.new (with_met (volume_seen geo.now I) b t)) }
+    ensures seen { reading.new.seen ≡ reading.old.seen }
+{
+    let header = header_at(bytes, 0x30);
+    if !is_sound(&header, (block_bytes(geo) - 0x40) / 16) {
+        add_fault(reading, b)?;
+        return Ok(Vec::new(alloc));
+    }
+    records_at(alloc, bytes, 0x30, header.next_free_rec)
+}
+
+/// Whether a record of an inner list names a block that is to be looked at.
+#[tactic(auto, unfolding(o2_model::specs::Extents::names_new_block))]
+fn may_look(geo: &Geo, low: u64, r: &ExtentRec, reading: &Reading) -> bool
+    requires { HasSizes geo.now }
+    ensures { (I : Image) → result ≡ names_new_block (volume_seen geo.now I) low reading.now.seen.items r.now }
+{
+    let cpos = u64::from(r.cpos);
+    let is_in_range = is_block_in_range(geo, r.blkno);
+    let was_seen = has_seen(reading, r.blkno);
+    low <= cpos && is_in_range && !was_seen
+}
+
+/// Looks at the block that a record of an inner list names, and gives the records of the list in it. None where the
+/// record is bad.
+fn enter<D: Disk, const N: usize>(
+    alloc: Global,
+    view: &mut View<'_, D, N>,
+    geo: &Geo,
+    depth: u16,
+    holder: u64,
+    low: u64,
+    r: &ExtentRec,
+    reading: &mut Reading,
+) -> Result<Option<Vec<ExtentRec>>, ViewFault>
+    requires geo { LiesIn geo.now view.old }
+    requires inner { 0 < depth }
+    ensures bad { IfOk result (λ found. IfNone found ((I : Image) → (view_state view.old).content ≡ Some I → (m : ℕ) (rs : List Record) (t : Extents) → Keeps reading.old t
+        → Keeps reading.new (read_records (volume_seen geo.now I) m depth holder low (r.now ∷ rs) t))) }
+    ensures good { IfOk result (λ found. IfSome found (λ below. (I : Image) → (view_state view.old).content ≡ Some I → (t : Extents) → Keeps reading.old t
+        → Enters (volume_seen geo.now I) depth low t r.now reading.new below.items)) }
+    ensures apart { Apart (view_blocks view.old) reading.old.seen.items → Apart (view_blocks view.old) reading.new.seen.items }
+    ensures count { LooksAtMost reading.old.seen.items reading.new.seen.items view.old view.new }
+    ensures reads { OnlyReads view.old view.new }
+    ensures fault { IsErrOf result ViewFault.DeviceFault → Rose (view_state view.old).faults (view_state view.new).faults }
+{
+    if !may_look(geo, low, r, reading) {
+        add_fault(reading, holder)?;
+        return Ok(None);
+    }
+    add_seen(reading, r.blkno)?;
+    let block = look(view, geo, r.blkno)?;
+    let bytes = block.as_slice();
+    if !has_extent_block(geo, depth - 1, r.blkno, bytes) {
+        add_fault(reading, holder)?;
+        return Ok(None);
+    }
+    let records = meet(alloc, geo, r.blkno, bytes, reading)?;
+    Ok(Some(records))
+}
+
+/// Reads the records of a list of this depth, and what is below them.
+pub fn read_into<D: Disk, const N: usize>(
+    alloc: Global,
+    view: &mut View<'_, D, N>,
+    geo: &Geo,
+    most_flags: u8,
+    depth: u16,
+    holder: u64,
+    records: &[ExtentRec],
+    reading: &mut Reading,
+) -> Result<(), ViewFault>
+    requires geo { LiesIn geo.now view.old }
+    ensures read { OnOk result ((I : Image) → (view_state view.old).content ≡ Some I → (t : Extents) → Keeps reading.old t
+        → Keeps reading.new (read_records (volume_seen geo.now I) most_flags depth holder 0 records.now t)) }
+    ensures apart { Apart (view_blocks view.old) reading.old.seen.items → Apart (view_blocks view.old) reading.new.seen.items }
+    ensures count { LooksAtMost reading.old.seen.items reading.new.seen.items view.old view.new }
+    ensures reads { OnlyReads view.old view.new }
+    ensures fault { IsErrOf result ViewFault.DeviceFault → Rose (view_state view.old).faults (view_state view.new).faults }
+{
+    if depth == 0 {
+        read_leaves(geo, most_flags, holder, records, reading)?;
+        return Ok(());
+    }
+    let mut low = 0;
+    for r in records {
+        let below = match enter(alloc, view, geo, depth, holder, low, r, reading)? {
+            Some(below) => below,
+            None => return Ok(()),
+        };
+        read_into(
+            alloc,
+            view,
+            geo,
+            most_flags,
+            depth - 1,
+            r.blkno,
+            below.as_slice(),
+            reading,
+        )?;
+        low = u64::from(r.cpos) + 1;
+    }
+    Ok(())
+}

@@ -1,0 +1,8 @@
+-- EXTENT, at the dinode or extent block whose list is not well formed.
+use Rattle.std.specs.Prelude.{ℕ, List, flat_map}
+use Rattle.o2_model.specs.Volume.{Volume}
+use Rattle.o2_model.specs.Inodes.{extent_lists_of}
+
+-- those of one inode's lists
+abbrev pub extent_faults : Volume → ℕ → List ℕ
+extent_faults v b = flat_map (λ t. t.faults) (extent_lists_of v b)

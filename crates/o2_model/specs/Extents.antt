@@ -1,0 +1,143 @@
+-- The tree of extents under an extent list.
+use Rattle.std.specs.Prelude.{ℕ, zero, suc, ◌+◌, ◌-◌, ◌*◌, ◌/◌, ◌%◌, ◌^◌, Bool, ◌&&◌, not, ◌==◌, nat_lt, nat_le, List, [], ◌∷◌, drop, filter, flat_map, fold, if◌then◌else◌}
+use Rattle.o2_ondisk.specs.ExtentBlocks.{extent_block_of}
+use Rattle.o2_ondisk.specs.ExtentListHeaders.{extent_list_header_of}
+use Rattle.o2_ondisk.specs.ExtentRecs.{extent_rec_of}
+use Rattle.o2_ondisk.specs.Signatures.{extent_block_signature}
+use Rattle.o2_ondisk.specs.declared.extent_block.ExtentBlock.{ExtentBlock}
+use Rattle.o2_ondisk.specs.declared.extent_list_header.ExtentListHeader.{ExtentListHeader}
+use Rattle.o2_ondisk.specs.declared.extent_rec.ExtentRec.{ExtentRec}
+use Rattle.o2_model.specs.Volume.{Volume, block_size, is_in_range}
+use Rattle.o2_model.specs.Clusters.{are_clusters_in_range}
+use Rattle.o2_model.specs.Words.{table, push, among}
+
+-- ---- lists and records
+-- how many clusters a record of a leaf list has (e_leaf_clusters of struct ocfs2_extent_rec)
+abbrev pub leaf_clusters : ExtentRec → ℕ
+leaf_clusters r = r.size.0 % 2 ^ 16
+
+-- how they are kept (e_flags of the same struct)
+abbrev pub leaf_flags : ExtentRec → ℕ
+leaf_flags r = r.size.0 / 2 ^ 24
+
+-- a record of a leaf list that has clusters
+abbrev pub has_clusters : ExtentRec → Bool
+has_clusters r = not (leaf_clusters r == 0)
+
+-- An extent list as it stands in a block (struct ocfs2_extent_list).
+pub record ExtentList : Type 0 where
+  pub header : ExtentListHeader
+  -- those in use
+  pub records : List ExtentRec
+
+-- the list that begins at byte `at` of the bytes
+abbrev pub extent_list : ℕ → List ℕ → ExtentList
+extent_list at bytes = record {
+  header = extent_list_header_of (drop at bytes);
+  records = table extent_rec_of 16 (at + 0x10) (extent_list_header_of (drop at bytes)).next_free_rec bytes;
+}
+
+-- what the block says as an extent block (struct ocfs2_extent_block)
+abbrev pub extent_block : Volume → ℕ → ExtentBlock
+extent_block v b = extent_block_of (v.at b)
+
+-- the list in an extent block (h_list of the same struct)
+abbrev pub list_in_block : Volume → ℕ → ExtentList
+list_in_block v b = extent_list 0x30 (v.at b)
+
+-- at most this many records fit an extent block (ocfs2_extent_recs_per_eb)
+abbrev pub most_in_block : Volume → ℕ
+most_in_block v = (block_size v - 0x40) / 16
+
+-- ---- leaf records where nothing is wrong
+-- the records with clusters below these ones, of a list of this depth: at depth 0 themselves, above it those below each
+abbrev pub leaves_below : Volume → ℕ → List ExtentRec → List ExtentRec
+leaves_below v zero records = filter has_clusters records
+leaves_below v (suc depth) records = flat_map (λ r. leaves_below v depth (list_in_block v r.blkno).records) records
+
+-- ---- the reading of a tree where something may be wrong
+-- What was read of a tree so far, in order.
+pub record Extents : Type 0 where
+  -- the leaf records with clusters
+  pub leaves : List ExtentRec
+  -- the extent blocks
+  pub blocks : List ℕ
+  -- the blocks that were looked at as extent blocks, also those that are none
+  pub seen : List ℕ
+  -- the blocks whose lists are not well formed
+  pub faults : List ℕ
+
+-- nothing was read yet
+abbrev pub nothing_read : Extents
+nothing_read = record { leaves = []; blocks = []; seen = []; faults = [] }
+
+abbrev pub with_leaf : Extents → ExtentRec → Extents
+with_leaf t r = record t { leaves = push t.leaves r }
+
+abbrev pub with_seen : Extents → ℕ → Extents
+with_seen t b = record t { seen = push t.seen b }
+
+abbrev pub with_block : Extents → ℕ → Extents
+with_block t b = record t { blocks = push t.blocks b }
+
+abbrev pub with_fault : Extents → ℕ → Extents
+with_fault t b = record t { faults = push t.faults b }
+
+-- the cluster of the inode behind the last of these leaf records
+abbrev pub end_of : List ExtentRec → ℕ
+end_of leaves = fold (λ _ r. r.cpos + leaf_clusters r) 0 leaves
+
+-- l_count fits the room for `most` records, l_next_free_rec fits l_count, and the tree is at most 5 deep
+unfoldable pub is_sound_header : ℕ → ExtentListHeader → Bool
+is_sound_header most h = nat_le h.count most && nat_le h.next_free_rec h.count && nat_le h.tree_depth 5
+
+-- the block is an extent block of this volume and of its own number, with a list of this depth
+unfoldable pub is_extent_block : Volume → ℕ → ℕ → Bool
+is_extent_block v depth b =
+    (extent_block v b).signature.0 == extent_block_signature
+    && (extent_block v b).blkno == b
+    && (extent_block v b).fs_generation == v.geo.generation
+    && (list_in_block v b).header.tree_depth == depth
+
+-- A leaf record after those that end at cluster `low`: it rises and does not overlap them, it ends below 2^32, its clusters
+-- are whole and in range, and its flags are at most these.
+unfoldable pub is_sound_leaf : Volume → ℕ → ℕ → ExtentRec → Bool
+is_sound_leaf v most_flags low r =
+    nat_le low r.cpos
+    && nat_lt (r.cpos + leaf_clusters r) (2 ^ 32)
+    && are_clusters_in_range v r.blkno (leaf_clusters r)
+    && nat_le (leaf_flags r) most_flags
+
+-- A record of an inner list begins at cluster `low` or later, and names a block in range that was not looked at before.
+unfoldable pub names_new_block : Volume → ℕ → List ℕ → ExtentRec → Bool
+names_new_block v low seen r = nat_le low r.cpos && is_in_range v r.blkno && not (among seen r.blkno)
+
+-- an extent block is met, at fault where the head of its list is
+unfoldable pub with_met : Volume → ℕ → Extents → Extents
+with_met v b t = if is_sound_header (most_in_block v) (list_in_block v b).header then with_block t b else with_fault (with_block t b) b
+
+-- the records of its list, none where the list's head is at fault
+unfoldable pub records_in_block : Volume → ℕ → List ExtentRec
+records_in_block v b = if is_sound_header (most_in_block v) (list_in_block v b).header then (list_in_block v b).records else []
+
+-- The records of the list in block `holder`, of this depth, are read in order. What was read before judges each, and the
+-- first bad one ends its list. `low` is one more than the cluster at which the record before begins.
+abbrev pub read_records : Volume → ℕ → ℕ → ℕ → ℕ → List ExtentRec → Extents → Extents
+read_records v most_flags depth holder low [] t = t
+read_records v most_flags zero holder low (r ∷ rs) t =
+    if leaf_clusters r == 0 then read_records v most_flags zero holder low rs t
+    else if is_sound_leaf v most_flags (end_of t.leaves) r then read_records v most_flags zero holder low rs (with_leaf t r)
+    else with_fault t holder
+read_records v most_flags (suc depth) holder low (r ∷ rs) t =
+    if not (names_new_block v low t.seen r) then with_fault t holder
+    else if is_extent_block v depth r.blkno
+    then read_records v most_flags (suc depth) holder (r.cpos + 1) rs (read_records v most_flags depth r.blkno 0 (records_in_block v r.blkno) (with_met v r.blkno (with_seen t r.blkno)))
+    else with_fault (with_seen t r.blkno) holder
+
+-- What is read from the list at byte `at` of block `holder` on, which has room for `most` records.
+abbrev pub read_list : Volume → ℕ → ℕ → ℕ → ℕ → Extents
+read_list v most_flags holder at most =
+    let list = extent_list at (v.at holder) in
+    if is_sound_header most list.header
+    then read_records v most_flags list.header.tree_depth holder 0 list.records nothing_read
+    else with_fault nothing_read holder
