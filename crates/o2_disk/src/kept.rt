@@ -10,7 +10,7 @@ ghost use Rattle.o2_disk.specs.declared.call.Call.TheVariants.{Sync, FailedSync}
 
 use crate::sparse::{are_zeros, clear, make_room, put};
 use crate::{Call, NoMemory};
-use std::alloc::Global;
+use std::alloc::{AllocError, AllocFailed, Global};
 use std::collections::BTreeMap;
 
 /// Counts one more, and stops at the last number.

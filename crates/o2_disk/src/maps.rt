@@ -1,5 +1,5 @@
 // The two maps of a disk that no call has reached yet.
-ghost use Rattle.std.specs.Prelude.{◌≡◌, ◌≢◌, ℕ, IfOk};
+ghost use Rattle.std.specs.Prelude.{◌≡◌, ◌≢◌, ℕ, IfOk, OnOk};
 ghost use Rattle.o2_disk.specs.Image.{IsSector, zero_sector};
 ghost use Rattle.o2_disk.specs.Stored.{stored};
 

@@ -1,8 +1,9 @@
 // A disk in memory: a sparse map of sectors, and a record of all calls.
-ghost use Rattle.std.specs.Prelude.{◌≡◌, ℕ, ◌+◌, ◌-◌, ◌*◌, ◌/◌, ◌<◌, ◌≤◌, ◌^◌, [], ◌∷◌, ◌++◌, length, OnOk, OnErr, IfOk, string_bytes, Some, None};
+ghost use Rattle.std.specs.Prelude.{◌≡◌, ◌≢◌, ◌⊎◌, ℕ, ◌+◌, ◌-◌, ◌*◌, ◌/◌, ◌%◌, ◌<◌, ◌≤◌, ◌^◌, [], ◌∷◌, ◌++◌, length, OnOk, OnErr, IfOk, string_bytes, Some, None, unwrap_or};
 ghost use Rattle.std.specs.Ordering.{nat_cmp};
 ghost use Rattle.std.specs.BTreeMap.{get};
 ghost use Rattle.o2_disk.specs.Image.{IsSector, zero_sector};
+ghost use Rattle.o2_disk.specs.Device.{Rose};
 ghost use Rattle.o2_disk.specs.Stored.{stored};
 ghost use Rattle.o2_disk.specs.Calls.{mem_state, newest, run, start, put_or_zeros};
 ghost use Rattle.o2_disk.specs.Recorded.{counts_now, only_now, shown_is_outcome, has_sectors, is_image};
@@ -145,7 +146,7 @@ impl MemDisk {
 }
 
 impl Disk for MemDisk {
-    ghost use Rattle.std.specs.Prelude.{◌≡◌, ◌*◌, length, false, IfOk, OnOk, OnErr, IsErrOf, Some, None};
+    ghost use Rattle.std.specs.Prelude.{◌≡◌, ◌≢◌, ◌*◌, ℕ, List, length, true, false, IfOk, OnOk, OnErr, IsErrOf, Some, None};
     ghost use Rattle.o2_disk.specs.Image.{Image, written, bytes_from, Torn};
     ghost use Rattle.o2_disk.specs.Device.{Told, Follows, Leads, StaysPending, Only, IsRange, IsWritable, SameDevice, Keeps, Elapses, Ticks, HasCause};
     ghost use Rattle.o2_disk.specs.Calls.{RecordsWrite};

@@ -1,10 +1,10 @@
 // A sparse map of sectors: what is not there is zeros.
-ghost use Rattle.std.specs.Prelude.{◌≡◌, ◌≢◌, ◌↔◌, Some, None, ℕ, ◌+◌, ◌-◌, ◌*◌, ◌/◌, ◌%◌, ◌<◌, ◌≤◌, ◌^◌, ◌&&◌, length, OnOk, slice_index, IsSome, IsTrue, nat_le, nat_lt, if◌then◌else◌};
+ghost use Rattle.std.specs.Prelude.{◌≡◌, ◌≢◌, ◌↔◌, Some, None, Option, ℕ, ◌+◌, ◌-◌, ◌*◌, ◌/◌, ◌%◌, ◌<◌, ◌≤◌, ◌^◌, ◌&&◌, length, OnOk, slice_index, IsSome, IsTrue, nat_le, nat_lt, if◌then◌else◌, unwrap_or};
 ghost use Rattle.std.specs.Ordering.{nat_cmp};
 ghost use Rattle.std.specs.BTreeMap.{get};
 ghost use Rattle.o2_disk.specs.Image.{sectors_in, piece, zero_sector};
 ghost use Rattle.o2_disk.specs.Stored.{stored};
-ghost use Rattle.o2_disk.specs.Calls.{AreZeros};
+ghost use Rattle.o2_disk.specs.Calls.{put_into, AreZeros};
 
 use std::alloc::AllocError;
 use std::collections::BTreeMap;
