@@ -1,11 +1,11 @@
 -- The numbers of the superblock that is found.
-use Rattle.std.proofs.Common.{◌≡◌, ⊎_elim, ℕ, List, [], ◌∷◌, Bool, true, false, Option, Some, None, refl, sym, ◌∙◌, ap, subst, arith}
+use Rattle.std.proofs.Common.{◌≡◌, ⊎_elim, ℕ, List, [], ◌∷◌, Bool, true, Option, Some, None, refl, sym, ◌∙◌, ap, subst, arith}
 use Rattle.std.proofs.lemmas.Bool.Decides.{nat_tests}
 use Rattle.std.proofs.lemmas.Bool.{cases_Bool}
 use Rattle.std.specs.Prelude.{find}
 use Rattle.std.specs.Option.{option_map}
 use Rattle.o2_disk.specs.Image.{Image}
-use Rattle.o2_model.specs.Superblock.{superblock, superblock_bits, has_super, block_sizes}
+use Rattle.o2_model.specs.Superblock.{superblock_bits, has_super, block_sizes}
 use Rattle.o2_model.specs.Geometry.{geometry_at, superblock_geometry}
 use Rattle.o2_model.specs.Volume.{opened, volume_of}
 use Rattle.o2_model.specs.declared.geo.Geo.{Geo}

@@ -1,6 +1,6 @@
 -- Block 2 by its first sector, which has all that is looked at.
-use Rattle.std.proofs.Common.{◌≡◌, ℕ, ◌+◌, ◌-◌, ◌*◌, ◌/◌, ◌^◌, ◌<◌, ◌≤◌, List, length, take, drop, get_or, Bool, true, false, ◌&&◌, refl, sym, ◌∙◌, ap, arith}
-use Rattle.std.proofs.lemmas.List.{ext_get_or, get_or-take, length-take, drop-take, take_all}
+use Rattle.std.proofs.Common.{◌≡◌, ℕ, ◌+◌, ◌-◌, ◌*◌, ◌/◌, ◌^◌, ◌<◌, ◌≤◌, List, length, take, drop, Bool, true, false, ◌&&◌, refl, sym, ◌∙◌, ap, arith}
+use Rattle.std.proofs.lemmas.List.{ext_get_or, get_or-take, length-take, drop-take}
 use Rattle.std.proofs.lemmas.List.FromFn.{length-map-range_with_len, get_or-map-range_with_len}
 use Rattle.std.proofs.lemmas.Nat.{pow-add, pow_pos}
 use Rattle.std.proofs.lemmas.Bool.Decides.{nat_tests}

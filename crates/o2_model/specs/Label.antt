@@ -1,5 +1,5 @@
 -- The volume's label, and the image with another one.
-use Rattle.std.specs.Prelude.{ℕ, ◌+◌, ◌-◌, List, ◌++◌, length, replicate, Option, Some, None}
+use Rattle.std.specs.Prelude.{ℕ, ◌+◌, ◌-◌, List, ◌++◌, length, replicate}
 use Rattle.std.specs.Option.{option_map_or}
 use Rattle.o2_ondisk.specs.Fields.{paste_at}
 use Rattle.o2_disk.specs.Image.{Image, sector, written}

@@ -1,5 +1,5 @@
 -- Where a volume's superblock is, and what it says.
-use Rattle.std.specs.Prelude.{◌≡◌, ℕ, ◌+◌, ◌*◌, ◌^◌, ◌/◌, Bool, ◌&&◌, ◌==◌, nat_le, List, [], ◌∷◌, ◌++◌, length, drop, find, codes, Option, refl}
+use Rattle.std.specs.Prelude.{◌≡◌, ℕ, ◌*◌, ◌^◌, ◌/◌, Bool, ◌&&◌, ◌==◌, nat_le, List, [], ◌∷◌, ◌++◌, length, drop, find, codes, Option, refl}
 use Rattle.byteorder.specs.Endian.{little_number}
 use Rattle.o2_ondisk.specs.Number.{number_at}
 use Rattle.o2_ondisk.specs.Super.{super_of}
