@@ -1,11 +1,11 @@
 -- Where words leave the grammar.
-use Rattle.std.proofs.Common.{◌≡◌, ◌≢◌, ◌⊎◌, inl, inr, ⊎_elim, ℕ, ◌+◌, ◌<◌, ◌≤◌, List, [], ◌∷◌, ◌++◌, length, take, drop, get_or, String, string_bytes, codes, refl, sym, ◌∙◌, ap, subst, arith, nat_eq, true, false, IsTrue}
+use Rattle.std.proofs.Common.{◌≡◌, ◌≢◌, ◌⊎◌, inl, inr, ⊎_elim, ℕ, ◌+◌, ◌<◌, ◌≤◌, List, [], ◌∷◌, length, drop, get_or, String, string_bytes, codes, refl, sym, ◌∙◌, ap, subst, arith, nat_eq, false, IsTrue}
 use Rattle.std.proofs.lemmas.Bool.Decides.{nat_tests}
 use Rattle.std.proofs.lemmas.List.{drop_more, drop_all}
 use Rattle.std.specs.declared.alloc.Global.{Global}
 use Rattle.o2_tools.specs.declared.cause.Cause.{Cause}
 use Rattle.o2_tools.specs.declared.cause.Cause.TheVariants.{Fine, Usage, Later, NotOcfs2, Range, DeviceFault, NoMemory}
-use Rattle.o2_tools.specs.CommandLine.{Words, texts, IsDevice, IsLabelLine, IsLine, Begins, LeavesAt, IsFirst, AreFirst, IsNotBuilt, RefusesWords}
+use Rattle.o2_tools.specs.CommandLine.{Words, texts, IsDevice, IsLine, Begins, IsFirst, AreFirst, IsNotBuilt, RefusesWords}
 
 -- texts with other letters at this place are not the same
 apart : (k : ℕ) (xs ys : List ℕ) → nat_eq (get_or xs k 0) (get_or ys k 0) ≡ false → xs ≡ ys → ⊥

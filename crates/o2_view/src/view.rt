@@ -35,7 +35,7 @@ impl<'a, D: Disk, const N: usize> View<'a, D, N> {
         requires some { 1 ≤ N }
         ensures bits { IfOk result (λ view. view_bits view ≡ block_bits) }
         ensures blocks { IfOk result (λ view. view_blocks view ≡ blocks) }
-        ensures state { IfOk result (λ view. (view_disk view).now ≡ disk.old) }
+        ensures disk { IfOk result (λ view. (view_disk view).now ≡ disk.old) }
         ensures lent { IfOk result (λ view. (view_disk view).ghost_name ≡ disk.entry.ghost_name) }
         ensures succeeds { IsOk result }
     {

@@ -1,8 +1,8 @@
-use Rattle.std.proofs.Common.{◌≡◌, ◌∙◌, inl, inr, ⊎_elim, refl, sym, ap, subst, arith, length, ◌+◌, ◌≤◌, ℕ, Some, true}
+use Rattle.std.proofs.Common.{◌≡◌, ◌∙◌, inl, inr, ⊎_elim, refl, sym, ap, subst, arith, Some, true}
 use Rattle.std.proofs.lemmas.Result.{on_ok_weaker}
 use Rattle.std.proofs.lemmas.Slice.Eq.{bytes_eq-Decides}
 use Rattle.o2_ondisk.specs.declared.superblock.Super.{Super}
-use Rattle.o2_disk.specs.Image.{Image, written}
+use Rattle.o2_disk.specs.Image.{Image}
 use Rattle.o2_disk.specs.Device.{IsSettled}
 use Rattle.o2_disk.proofs.Moments.{reads_none, leaves_itself, weaker}
 use Rattle.o2_model.specs.Label.{with_label}

@@ -1,4 +1,4 @@
-use Rattle.std.proofs.Common.{◌≡◌, ◌∙◌, inl, inr, ⊎_elim, refl, sym, subst}
+use Rattle.std.proofs.Common.{◌∙◌, inl, inr, ⊎_elim, refl, subst}
 use Rattle.o2_disk.specs.Image.{Image}
 use Rattle.o2_disk.specs.Device.{IsSettled}
 use Rattle.o2_disk.proofs.Moments.{reads_both, settled_after_reads, leaves_itself, leaves_after_reads, weaker}

@@ -1,4 +1,4 @@
-use Rattle.std.proofs.Common.{rules, ◌≡◌, ◌<◌, ◌≤◌, length, codes, drop, get_or, ◌∷◌, List, [], ℕ, String, string_bytes, refl, sym, ap, ◌∙◌, arith}
+use Rattle.std.proofs.Common.{◌≤◌, length, codes, ◌∷◌, [], refl, ap, ◌∙◌, arith}
 use Rattle.o2_tools.specs.CommandLine.{Words, texts}
 use Rattle.o2_tools.proofs.Lines.{usage_no_label, third_of, fourth_of, fifth_of, texts_end, behind_two, refused_as}
 use Rattle.o2_tools.proofs.words.read_label.Goals as goal

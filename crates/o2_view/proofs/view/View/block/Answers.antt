@@ -1,4 +1,4 @@
-use Rattle.std.proofs.Common.{◌≡◌, ◌∙◌, ◌*◌, ◌<◌, ◌^◌, length, arith, rules}
+use Rattle.std.proofs.Common.{◌≡◌, ◌∙◌, ◌^◌, length, arith}
 use Rattle.o2_view.proofs.Shifts.{shifted_bytes}
 use Rattle.o2_view.proofs.WholeBlocks.{block_range, block_read, all_of}
 use Rattle.o2_view.proofs.view.View.block.Goals as goal
