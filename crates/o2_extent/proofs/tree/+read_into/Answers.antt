@@ -1,5 +1,5 @@
 -- One record more, or the bad one.
-use Rattle.std.proofs.Common.{◌≡◌, ◌+◌, ◌-◌, drop, get_or, sym, ◌∙◌, ap, subst, arith}
+use Rattle.std.proofs.Common.{◌+◌, ◌-◌, drop, get_or, sym, ◌∙◌, ap, subst, arith}
 use Rattle.std.proofs.lemmas.List.{drop_all}
 use Rattle.o2_model.specs.Words.{Apart}
 use Rattle.o2_model.specs.Extents.{read_records, records_in_block, with_met, with_seen}

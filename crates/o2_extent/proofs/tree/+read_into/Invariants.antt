@@ -1,5 +1,5 @@
 -- From what is read so far the records left give what all give from the start.
-use Rattle.std.proofs.Common.{◌≡◌, ℕ, Some, drop}
+use Rattle.std.proofs.Common.{◌≡◌, Some, drop}
 use Rattle.o2_disk.specs.Image.{Image}
 use Rattle.o2_view.specs.Views.{view_state, view_blocks}
 use Rattle.o2_model.specs.Words.{Apart}

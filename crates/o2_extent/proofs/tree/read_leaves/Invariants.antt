@@ -1,5 +1,5 @@
 -- From what is read so far the records left give what all give from the start.
-use Rattle.std.proofs.Common.{◌≡◌, ℕ, drop}
+use Rattle.std.proofs.Common.{◌≡◌, drop}
 use Rattle.o2_disk.specs.Image.{Image}
 use Rattle.o2_model.specs.Extents.{Extents, read_records}
 use Rattle.o2_extent.specs.Seen.{volume_seen}
