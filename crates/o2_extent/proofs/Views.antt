@@ -1,10 +1,9 @@
 -- Calls that only read, one after the other.
-use Rattle.std.proofs.Common.{◌≡◌, ℕ, ◌≤◌, List, length, refl, sym, ◌∙◌, arith}
-use Rattle.o2_disk.specs.Device.{SameDevice}
+use Rattle.std.proofs.Common.{ℕ, List, refl, sym, ◌∙◌, arith}
 use Rattle.o2_disk.specs.declared.disk.Disk as disk
 use Rattle.o2_disk.proofs.Moments.{reads_none, reads_both}
 use Rattle.o2_model.specs.declared.geo.Geo.{Geo}
-use Rattle.o2_view.specs.Views.{view_state, SameView}
+use Rattle.o2_view.specs.Views.{view_state}
 use Rattle.o2_view.specs.declared.view.View.{View}
 use Rattle.o2_extent.specs.Seen.{LiesIn}
 use Rattle.o2_extent.specs.Reads.{OnlyReads}

@@ -1,6 +1,5 @@
 -- What a reader does to the view that it is given.
-use Rattle.std.specs.Prelude.{◌≡◌, ℕ, ◌+◌, ◌≤◌, Some}
-use Rattle.o2_disk.specs.Image.{Image}
+use Rattle.std.specs.Prelude.{ℕ, ◌≤◌}
 use Rattle.o2_disk.specs.Device.{ReadsOnly, SameDevice}
 use Rattle.o2_disk.specs.declared.disk.Disk as disk
 use Rattle.o2_view.specs.Views.{view_state, SameView}

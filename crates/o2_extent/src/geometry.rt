@@ -1,5 +1,5 @@
 // Sizes and ranges by the numbers of a volume.
-ghost use Rattle.std.specs.Prelude.{◌≡◌, ◌-◌, ◌*◌, ◌^◌, ◌≤◌, nat_lt, ◌&&◌};
+ghost use Rattle.std.specs.Prelude.{◌≡◌, ◌-◌, ◌*◌, ◌^◌, ◌<◌, ◌≤◌, nat_lt, ◌&&◌};
 ghost use Rattle.o2_disk.specs.Image.{Image};
 ghost use Rattle.o2_model.specs.Clusters.{are_clusters_in_range};
 ghost use Rattle.o2_extent.specs.Seen.{HasSizes, volume_seen};
@@ -29,7 +29,8 @@ pub fn block_bytes(geo: &Geo) -> u64
 /// How many blocks the volume has.
 pub fn volume_blocks(geo: &Geo) -> u64
     requires { HasSizes geo.now }
-    ensures { result ≡ geo.now.clusters * 2 ^ (geo.now.cluster_bits - geo.now.block_bits) }
+    ensures blocks { result ≡ geo.now.clusters * 2 ^ (geo.now.cluster_bits - geo.now.block_bits) }
+    ensures fits { result < 2 ^ 64 }
 {
     let _clusters = geo.clusters;
     u64::from(geo.clusters) * blocks_per_cluster(geo)

@@ -9,7 +9,7 @@ ghost use Rattle.o2_model.specs.Extents.{read_list};
 ghost use Rattle.o2_model.specs.Inodes.{extents, most_in_dinode};
 ghost use Rattle.o2_extent.specs.Seen.{LiesIn, volume_seen};
 ghost use Rattle.o2_extent.specs.Reads.{OnlyReads};
-ghost use Rattle.o2_extent.specs.Readings.{Keeps};
+ghost use Rattle.o2_extent.specs.Readings.{Keeps, Within};
 
 use crate::dinode::{flags_allowed, has_list};
 use crate::geometry::block_bytes;
@@ -44,6 +44,7 @@ fn read_dinode_list<D: Disk, const N: usize>(
     requires long { 512 ≤ length bytes.now }
     ensures read { IfOk result (λ reading. (I : Image) → (view_state view.old).content ≡ Some I → bytes.now ≡ block_at (2 ^ geo.now.block_bits) I owner
         → Keeps reading (read_list (volume_seen geo.now I) most_flags owner 0xc0 (most_in_dinode (volume_seen geo.now I)))) }
+    ensures within { IfOk result (λ reading. Within geo.now reading.leaves.items) }
     ensures count { (I : Image) → (view_state view.old).content ≡ Some I → (view_state view.new).moment + 1 ≤ (view_state view.old).moment + view_blocks view.old }
     ensures reads { OnlyReads view.old view.new }
     ensures fault { IsErrOf result ViewFault.DeviceFault → Rose (view_state view.old).faults (view_state view.new).faults }
@@ -83,6 +84,7 @@ fn read_own_list<D: Disk, const N: usize>(
     requires long { 512 ≤ length bytes.now }
     ensures read { IfOk result (λ reading. (I : Image) → (view_state view.old).content ≡ Some I → bytes.now ≡ block_at (2 ^ geo.now.block_bits) I owner
         → Keeps reading (extents (volume_seen geo.now I) owner)) }
+    ensures within { IfOk result (λ reading. Within geo.now reading.leaves.items) }
     ensures count { (I : Image) → (view_state view.old).content ≡ Some I → (view_state view.new).moment + 1 ≤ (view_state view.old).moment + view_blocks view.old }
     ensures reads { OnlyReads view.old view.new }
     ensures fault { IsErrOf result ViewFault.DeviceFault → Rose (view_state view.old).faults (view_state view.new).faults }
@@ -107,6 +109,7 @@ pub fn read_inode<D: Disk, const N: usize>(
     ensures size { IfOk result (λ inode. length inode.block ≡ 2 ^ geo.now.block_bits) }
     ensures long { IfOk result (λ inode. 512 ≤ length inode.block) }
     ensures read { IfOk result (λ inode. (I : Image) → (view_state view.old).content ≡ Some I → Keeps inode.reading (extents (volume_seen geo.now I) owner)) }
+    ensures within { IfOk result (λ inode. Within geo.now inode.reading.leaves.items) }
     ensures count { CallsAtMost (view_blocks view.old) (view_state view.old) (view_state view.new) }
     ensures reads { OnlyReads view.old view.new }
     ensures fault { IsErrOf result ViewFault.DeviceFault → Rose (view_state view.old).faults (view_state view.new).faults }

@@ -8,6 +8,7 @@ mod inode_records;
 mod leaf;
 mod list;
 mod maps;
+mod pieces;
 mod reading;
 mod runs;
 mod tree;

@@ -4,7 +4,7 @@ ghost use Rattle.o2_disk.specs.Image.{Image};
 ghost use Rattle.o2_model.specs.Words.{among, push};
 ghost use Rattle.o2_model.specs.Extents.{Extents, is_sound_leaf, with_leaf, with_seen, with_fault, nothing_read};
 ghost use Rattle.o2_extent.specs.Seen.{HasSizes, volume_seen};
-ghost use Rattle.o2_extent.specs.Readings.{Keeps};
+ghost use Rattle.o2_extent.specs.Readings.{Keeps, leaf_of};
 
 use crate::Leaf;
 use crate::geometry::are_whole_clusters_in_range;
@@ -31,6 +31,7 @@ pub struct Reading {
 pub fn start(alloc: Global) -> Reading
     ensures keeps { Keeps result nothing_read }
     ensures seen { result.seen.items ≡ [] }
+    ensures leaves { result.leaves.items ≡ [] }
 {
     Reading {
         leaves: Vec::new(alloc),
@@ -44,6 +45,7 @@ pub fn start(alloc: Global) -> Reading
 pub fn add_leaf(reading: &mut Reading, r: &ExtentRec) -> Result<(), NoMemory>
     ensures added { OnOk result ((t : Extents) → Keeps reading.old t → Keeps reading.new (with_leaf t r.now)) }
     ensures seen { reading.new.seen ≡ reading.old.seen }
+    ensures leaves { reading.new.leaves.items ≡ (if is_ok result then push reading.old.leaves.items (leaf_of r.now) else reading.old.leaves.items) }
 {
     put(&mut reading.leaves, Leaf::of_record(r))?;
     reading.end = u64::from(r.cpos) + u64::from(r.size.leaf_clusters());
@@ -54,6 +56,7 @@ pub fn add_leaf(reading: &mut Reading, r: &ExtentRec) -> Result<(), NoMemory>
 pub fn add_fault(reading: &mut Reading, b: u64) -> Result<(), NoMemory>
     ensures added { OnOk result ((t : Extents) → Keeps reading.old t → Keeps reading.new (with_fault t b)) }
     ensures seen { reading.new.seen ≡ reading.old.seen }
+    ensures leaves { reading.new.leaves ≡ reading.old.leaves }
 {
     put(&mut reading.faults, b)
 }
@@ -62,6 +65,7 @@ pub fn add_fault(reading: &mut Reading, b: u64) -> Result<(), NoMemory>
 pub fn add_seen(reading: &mut Reading, b: u64) -> Result<(), NoMemory>
     ensures added { OnOk result ((t : Extents) → Keeps reading.old t → Keeps reading.new (with_seen t b)) }
     ensures seen { reading.new.seen.items ≡ (if is_ok result then push reading.old.seen.items b else reading.old.seen.items) }
+    ensures leaves { reading.new.leaves ≡ reading.old.leaves }
 {
     put(&mut reading.seen, b)
 }

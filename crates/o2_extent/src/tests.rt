@@ -1,17 +1,24 @@
 // Each call once, on a disk in memory.
-ghost use Rattle.std.specs.Prelude.{◌+◌, ◌≤◌, length};
+ghost use Rattle.std.specs.Prelude.{◌≡◌, ◌+◌, ◌-◌, ◌*◌, ◌^◌, ◌≤◌, length};
+ghost use Rattle.o2_extent.specs.Seen.{HasSizes};
 
-use crate::{Leaf, Leaves, list_of_runs, map_cluster, records};
+use crate::{Leaf, Leaves, list_of_runs, records};
 use o2_disk::{Disk, How, MemDisk};
 use o2_ondisk::{
     Dinode, DxSeed, ExtentBlock, ExtentListHeader, ExtentRec, ExtentSize, Signature, read_dinode,
     write_dinode, write_extent_block, write_extent_list_header, write_extent_rec,
 };
 use o2_view::{Check, Geo, ReadFault, Run, View};
+use std::alloc::Global;
 use std::test::Fail;
 
 // A volume of 40 clusters of 4 KiB, with blocks of 1 KiB.
-fn numbers() -> Geo {
+fn numbers() -> Geo
+    ensures sizes { HasSizes result }
+    ensures bits { result.block_bits ≡ 10 }
+    ensures blocks { result.clusters * 2 ^ (result.cluster_bits - result.block_bits) ≡ 160 }
+    ensures clusters { result.clusters ≡ 40 }
+{
     Geo {
         block_bits: 10,
         cluster_bits: 12,
@@ -88,6 +95,14 @@ fn leaf(cpos: u32, clusters: u32, block: u64, flags: u8) -> Leaf {
     }
 }
 
+// The records of the dinode in block 8 of a disk of 160 blocks.
+fn read_records<D: Disk>(alloc: Global, disk: &mut D) -> Result<Leaves, ReadFault>
+    requires { 320 ≤ (D.state disk.old).sectors }
+{
+    let mut view = View::<D, 1>::new(alloc, disk, 10, 160)?;
+    records(alloc, &mut view, &numbers(), 8)
+}
+
 #[test]
 fn reads_the_records_of_a_file(rt: HostRuntime) -> Result<(), Fail> {
     let alloc = rt.alloc();
@@ -117,8 +132,7 @@ fn reads_the_records_of_a_file(rt: HostRuntime) -> Result<(), Fail> {
         &record(7, 0x0200_0001, 120),
     );
     disk.write(20, &second)?;
-    let mut view = View::<MemDisk, 1>::new(alloc, &mut disk, 10, 160)?;
-    let leaves = records(alloc, &mut view, &numbers(), 8)?;
+    let leaves = read_records(alloc, &mut disk)?;
     let found = leaves.as_slice();
     assert_eq!(rt; found.len(), 3);
     assert_eq!(rt; found[0], leaf(0, 2, 40, 0));
@@ -140,8 +154,7 @@ fn tells_a_tree_that_leads_back(rt: HostRuntime) -> Result<(), Fail> {
     write_extent_block(&mut inner, &extent_block(9));
     put_list(&mut inner, 0x30, 1, &record(0, 2, 9), &record(4, 2, 9));
     disk.write(18, &inner)?;
-    let mut view = View::<MemDisk, 1>::new(alloc, &mut disk, 10, 160)?;
-    let answer = match records(alloc, &mut view, &numbers(), 8) {
+    let answer = match read_records(alloc, &mut disk) {
         Ok(_) => None,
         Err(fault) => Some(fault),
     };
@@ -150,16 +163,6 @@ fn tells_a_tree_that_leads_back(rt: HostRuntime) -> Result<(), Fail> {
         block: 8,
     };
     assert_eq!(rt; answer, Some(bad));
-    Ok(())
-}
-
-#[test]
-fn maps_clusters(rt: HostRuntime) -> Result<(), Fail> {
-    let alloc = rt.alloc();
-    let leaves = Leaves::from(vec![in alloc; leaf(0, 2, 40, 0), leaf(4, 2, 80, 1)]?);
-    assert_eq!(rt; map_cluster(&leaves, 4, 1), Some(44));
-    assert_eq!(rt; map_cluster(&leaves, 4, 3), None);
-    assert_eq!(rt; map_cluster(&leaves, 4, 5), Some(84));
     Ok(())
 }
 

@@ -10,7 +10,7 @@ ghost use Rattle.o2_model.specs.Words.{Apart};
 ghost use Rattle.o2_model.specs.Extents.{Extents, is_extent_block, names_new_block, with_met, records_in_block, read_records};
 ghost use Rattle.o2_extent.specs.Seen.{HasSizes, LiesIn, volume_seen};
 ghost use Rattle.o2_extent.specs.Reads.{OnlyReads};
-ghost use Rattle.o2_extent.specs.Readings.{Keeps, GoesOn, Stops, Enters, LooksAtMost};
+ghost use Rattle.o2_extent.specs.Readings.{Keeps, Within, GoesOn, Stops, Enters, LooksAtMost};
 
 use crate::geometry::{block_bytes, is_block_in_range};
 use crate::list::{header_at, is_sound, records_at};
@@ -32,6 +32,7 @@ fn read_leaf(
     ensures good { IfOk result (λ good. good ≡ true → (I : Image) (t : Extents) → Keeps reading.old t → GoesOn (volume_seen geo.now I) most_flags t r.now reading.new) }
     ensures bad { IfOk result (λ good. good ≡ false → (I : Image) (t : Extents) → Keeps reading.old t → Stops (volume_seen geo.now I) most_flags t r.now reading.new) }
     ensures seen { reading.new.seen ≡ reading.old.seen }
+    ensures within { Within geo.now reading.old.leaves.items → Within geo.now reading.new.leaves.items }
 {
     if r.size.leaf_clusters() == 0 {
         return Ok(true);
@@ -55,6 +56,7 @@ fn read_leaves(
     ensures read { OnOk result ((I : Image) (t : Extents) → Keeps reading.old t
         → Keeps reading.new (read_records (volume_seen geo.now I) most_flags 0 holder 0 records.now t)) }
     ensures seen { reading.new.seen ≡ reading.old.seen }
+    ensures within { Within geo.now reading.old.leaves.items → Within geo.now reading.new.leaves.items }
 {
     for r in records {
         if !read_leaf(geo, most_flags, r, reading)? {
@@ -113,6 +115,7 @@ fn meet(
     ensures met { OnOk result ((I : Image) → bytes.now ≡ block_at (2 ^ geo.now.block_bits) I b
         → (t : Extents) → Keeps reading.old t → Keeps reading.new (with_met (volume_seen geo.now I) b t)) }
     ensures seen { reading.new.seen ≡ reading.old.seen }
+    ensures leaves { reading.new.leaves ≡ reading.old.leaves }
 {
     let header = header_at(bytes, 0x30);
     if !is_sound(&header, (block_bytes(geo) - 0x40) / 16) {
@@ -152,6 +155,7 @@ fn enter<D: Disk, const N: usize>(
         → Keeps reading.new (read_records (volume_seen geo.now I) m depth holder low (r.now ∷ rs) t))) }
     ensures good { IfOk result (λ found. IfSome found (λ below. (I : Image) → (view_state view.old).content ≡ Some I → (t : Extents) → Keeps reading.old t
         → Enters (volume_seen geo.now I) depth low t r.now reading.new below.items)) }
+    ensures leaves { reading.new.leaves ≡ reading.old.leaves }
     ensures apart { Apart (view_blocks view.old) reading.old.seen.items → Apart (view_blocks view.old) reading.new.seen.items }
     ensures count { LooksAtMost reading.old.seen.items reading.new.seen.items view.old view.new }
     ensures reads { OnlyReads view.old view.new }
@@ -186,6 +190,7 @@ pub fn read_into<D: Disk, const N: usize>(
     requires geo { LiesIn geo.now view.old }
     ensures read { OnOk result ((I : Image) → (view_state view.old).content ≡ Some I → (t : Extents) → Keeps reading.old t
         → Keeps reading.new (read_records (volume_seen geo.now I) most_flags depth holder 0 records.now t)) }
+    ensures within { Within geo.now reading.old.leaves.items → Within geo.now reading.new.leaves.items }
     ensures apart { Apart (view_blocks view.old) reading.old.seen.items → Apart (view_blocks view.old) reading.new.seen.items }
     ensures count { LooksAtMost reading.old.seen.items reading.new.seen.items view.old view.new }
     ensures reads { OnlyReads view.old view.new }

@@ -1,6 +1,5 @@
 -- The list's head decides, and the blocks that are looked at are few.
-use Rattle.std.proofs.Common.{◌≡◌, ◌+◌, ◌-◌, ◌*◌, ◌/◌, ◌^◌, drop, true, false, sym, ◌∙◌, ap, subst, arith}
-use Rattle.o2_disk.specs.Image.{block_at}
+use Rattle.std.proofs.Common.{◌≡◌, ◌+◌, ◌-◌, ◌/◌, ◌^◌, drop, true, false, sym, ◌∙◌, ap, subst, arith}
 use Rattle.o2_ondisk.specs.ExtentListHeaders.{extent_list_header_of}
 use Rattle.o2_ondisk.specs.ExtentRecs.{extent_rec_of}
 use Rattle.o2_view.specs.Views.{view_blocks}

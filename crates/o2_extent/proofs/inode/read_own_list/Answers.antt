@@ -1,5 +1,5 @@
 -- The extents are what is read of the list, where there is one.
-use Rattle.std.proofs.Common.{◌≡◌, ◌^◌, sym, ◌∙◌, ap, subst}
+use Rattle.std.proofs.Common.{◌≡◌, sym, ◌∙◌, ap, subst}
 use Rattle.std.proofs.lemmas.Result.{IfOk-weaker}
 use Rattle.o2_ondisk.specs.Dinodes.{dinode_of}
 use Rattle.o2_model.specs.Volume.{dinode}

@@ -1,5 +1,5 @@
 -- The faults that were read are EXTENT's.
-use Rattle.std.proofs.Common.{◌≡◌, [], sym, ◌∙◌, ap, subst}
+use Rattle.std.proofs.Common.{◌≡◌, sym, ◌∙◌, subst}
 use Rattle.o2_model.specs.Words.{IsLeast}
 use Rattle.o2_model.specs.Checks.Extent.{extent_faults}
 use Rattle.o2_model.proofs.Readings.{faults_of_own_list}

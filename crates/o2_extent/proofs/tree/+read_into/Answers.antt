@@ -1,10 +1,10 @@
 -- One record more, or the bad one.
-use Rattle.std.proofs.Common.{◌≡◌, ◌+◌, ◌-◌, drop, get_or, sym, ◌∙◌, ap, subst, arith}
+use Rattle.std.proofs.Common.{◌+◌, ◌-◌, drop, get_or, sym, ◌∙◌, ap, subst, arith}
 use Rattle.std.proofs.lemmas.List.{drop_all}
 use Rattle.o2_model.specs.Words.{Apart}
 use Rattle.o2_model.specs.Extents.{read_records, records_in_block, with_met, with_seen}
 use Rattle.o2_extent.specs.Seen.{volume_seen}
-use Rattle.o2_extent.specs.Readings.{Keeps}
+use Rattle.o2_extent.specs.Readings.{Keeps, Within}
 use Rattle.o2_extent.proofs.Steps.{first_left, entered_block}
 use Rattle.o2_extent.proofs.Views.{only_both, looks_both}
 use Rattle.o2_extent.proofs.tree.+read_into.Goals as goal
@@ -60,4 +60,5 @@ loop-r-preserved g m c = record {
       (c.read_into.ensures.apart (subst (λ n. Apart n c.enter.new.reading.seen.items) (sym c.enter.ensures.reads.same.blocks) h2));
   count = looks_both (only_both c.loop-r.invariant.reads c.enter.ensures.reads) (looks_both c.loop-r.invariant.reads c.loop-r.invariant.count c.enter.ensures.count) c.read_into.ensures.count;
   reads = only_both (only_both c.loop-r.invariant.reads c.enter.ensures.reads) c.read_into.ensures.reads;
+  within = λ h. c.read_into.ensures.within (subst (λ leaves. Within c.args.geo.now leaves.items) (sym c.enter.ensures.leaves) (c.loop-r.invariant.within h));
 }

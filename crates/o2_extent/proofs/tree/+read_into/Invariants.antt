@@ -1,12 +1,12 @@
 -- From what is read so far the records left give what all give from the start.
-use Rattle.std.proofs.Common.{◌≡◌, ℕ, Some, drop}
+use Rattle.std.proofs.Common.{◌≡◌, Some, drop}
 use Rattle.o2_disk.specs.Image.{Image}
 use Rattle.o2_view.specs.Views.{view_state, view_blocks}
 use Rattle.o2_model.specs.Words.{Apart}
 use Rattle.o2_model.specs.Extents.{Extents, read_records}
 use Rattle.o2_extent.specs.Seen.{volume_seen}
 use Rattle.o2_extent.specs.Reads.{OnlyReads}
-use Rattle.o2_extent.specs.Readings.{Keeps, Left, LooksAtMost}
+use Rattle.o2_extent.specs.Readings.{Keeps, Within, Left, LooksAtMost}
 use Rattle.o2_extent.proofs.tree.+read_into.Given as goal
 
 abbrev pub invariant-loop-r : goal.invariant-loop-r
@@ -16,6 +16,7 @@ invariant-loop-r g l = record {
   apart : Apart (view_blocks l.fn.view) l.fn.reading.seen.items → Apart (view_blocks l.fn.view) l.reading.seen.items;
   count : LooksAtMost l.fn.reading.seen.items l.reading.seen.items l.fn.view l.view;
   reads : OnlyReads l.fn.view l.view;
+  within : Within l.geo l.fn.reading.leaves.items → Within l.geo l.reading.leaves.items;
 }
 
 abbrev pub decreases-read_into : goal.decreases-read_into

@@ -1,5 +1,5 @@
 -- A block that is looked at is new and in range.
-use Rattle.std.proofs.Common.{◌≡◌, ◌-◌, ◌^◌, [], true, false, refl, sym, ◌∙◌, ap, subst, arith, rules}
+use Rattle.std.proofs.Common.{◌≡◌, ◌-◌, ◌^◌, [], true, false, sym, ◌∙◌, ap, subst, arith}
 use Rattle.o2_disk.specs.Image.{block_at}
 use Rattle.o2_model.specs.Extents.{names_new_block, is_extent_block, with_seen}
 use Rattle.o2_model.proofs.Looks.{new_below}

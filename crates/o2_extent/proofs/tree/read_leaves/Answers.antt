@@ -33,4 +33,5 @@ loop-r-preserved c = record {
         gives = sym (goes.gives c.args.holder 0 (drop (i + 1) rs)) ∙ (sym (first_left v c.args.most_flags 0 c.args.holder 0 rs i _ left.now c.loop-r-test.true) ∙ left.gives);
       };
   seen = c.read_leaf.ensures.seen ∙ c.loop-r.invariant.seen;
+  within = λ h. c.read_leaf.ensures.within (c.loop-r.invariant.within h);
 }

@@ -1,0 +1,16 @@
+-- The volume lies in the view.
+use Rattle.std.proofs.Common.{arith, sym, ◌∙◌}
+use Rattle.o2_extent.proofs.tests.read_records.Goals as goal
+
+pub records-requires : goal.records-requires
+records-requires g c = (
+  omega arith,
+  (
+    record {
+      sizes = c.numbers.ensures.sizes;
+      bits = c.numbers.ensures.bits ∙ sym c.in_ok-view.ensures.bits;
+      within = omega (arith, c.numbers.ensures.blocks, c.in_ok-view.ensures.blocks);
+    },
+    omega (arith, c.in_ok-view.ensures.blocks),
+  ),
+)
