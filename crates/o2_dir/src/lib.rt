@@ -1,15 +1,16 @@
 //! The entries of a directory.
 #![tactic(auto)]
 
+mod blocks;
 mod dots;
 mod entries_in_block;
 mod entry;
 mod fault;
+mod geometry;
+mod mapped_directory;
 mod places;
 mod reading;
 
-pub use entries_in_block::add_entries;
 pub use entry::{Entries, Entry};
 pub use fault::DirFault;
-pub use places::places_of_leaves;
-pub use reading::add_block;
+pub use mapped_directory::mapped;

@@ -1,7 +1,7 @@
 -- One block more.
 use Rattle.std.proofs.Common.{◌≡◌, ◌*◌, ◌+◌, ◌<◌, ◌≤◌, ap, arith}
 use Rattle.std.proofs.Math.Nat.{mul-le-mul_left}
-use Rattle.o2_dir.proofs.Mapped.{first_more, first_inside}
+use Rattle.o2_dir.proofs.MappedPlaces.{first_more, first_inside}
 use Rattle.o2_dir.proofs.places.add_mapped.Goals as goal
 
 pub add_place-requires-clause-place : goal.add_place-requires-clause-place

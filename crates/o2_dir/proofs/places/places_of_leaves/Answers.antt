@@ -1,5 +1,5 @@
 -- One record more.
-use Rattle.o2_dir.proofs.Mapped.{places_more}
+use Rattle.o2_dir.proofs.MappedPlaces.{places_more}
 use Rattle.o2_dir.proofs.places.places_of_leaves.Goals as goal
 
 pub loop-leaf-preserved : goal.loop-leaf-preserved
