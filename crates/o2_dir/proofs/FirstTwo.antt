@@ -28,7 +28,7 @@ and_four false b c d = refl
 
 two : (bytes behind : List ℕ) (a b : NamedEntry) → has_entry bytes ≡ true → a ≡ entry_at_front bytes → has_entry behind ≡ true → b ≡ entry_at_front behind
     → (is_live a && bytes_eq a.name (codes ".") && is_live b && bytes_eq b.name (codes "..")) ≡ (begins_with (codes ".") bytes && begins_with (codes "..") behind)
-two bytes behind a b first is_a second is_b = rw (is_a, is_b, first, second) 
+two bytes behind a b first is_a second is_b = rw (is_a, is_b, first, second)
     (and_four (is_live (entry_at_front bytes)) (bytes_eq (entry_at_front bytes).name (codes ".")) (is_live (entry_at_front behind)) (bytes_eq (entry_at_front behind).name (codes "..")))
 
 are : (bytes : List ℕ) (es : List NamedEntry) → Fill es bytes → begin_with_dots es ≡ (begins_with (codes ".") bytes && begins_with (codes "..") (drop (dir_entry_of bytes).rec_len bytes))

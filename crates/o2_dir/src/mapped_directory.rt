@@ -52,9 +52,7 @@ pub fn mapped<D: Disk, const N: usize>(
     let bytes = block_bytes(geo);
     let per_cluster = blocks_per_cluster(geo);
     let blocks = volume_blocks(geo);
-    let Some(places) =
-        places_of_leaves(alloc, per_cluster, size / bytes, blocks, leaves)?
-    else {
+    let Some(places) = places_of_leaves(alloc, per_cluster, size / bytes, blocks, leaves)? else {
         return Err(DirFault::Bad {
             check: Check::Extent,
             block: inode,

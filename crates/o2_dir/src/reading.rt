@@ -7,10 +7,10 @@ ghost use Rattle.o2_model.specs.Checks.DirBlock.{begin_with_dots};
 ghost use Rattle.o2_dir.specs.Blocks.{Keeps};
 ghost use Rattle.o2_dir.specs.Told.{told};
 
-use crate::{DirFault, Entries, Entry};
 use crate::dots::begins_with_dots;
 use crate::entries_in_block::add_entries;
 use crate::places::put;
+use crate::{DirFault, Entries, Entry};
 use o2_disk::NoMemory;
 use o2_model::Check;
 use std::alloc::Global;
