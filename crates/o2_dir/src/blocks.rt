@@ -1,0 +1,60 @@
+// The blocks of a directory that its records map.
+ghost use Rattle.std.specs.Prelude.{◌≡◌, ◌<◌, List, All, map, OnOk, IfOk, IsErrOf, Some};
+ghost use Rattle.o2_disk.specs.Image.{Image};
+ghost use Rattle.o2_disk.specs.Device.{Rose};
+ghost use Rattle.o2_view.specs.Views.{view_state, view_blocks};
+ghost use Rattle.o2_model.specs.Words.{push};
+ghost use Rattle.o2_model.specs.Directories.{DirBlock};
+ghost use Rattle.o2_extent.specs.Seen.{LiesIn, volume_seen};
+ghost use Rattle.o2_extent.specs.Reads.{OnlyReads};
+ghost use Rattle.o2_dir.specs.Blocks.{Keeps, block_at_place};
+
+use crate::geometry::block_bytes;
+use crate::places::Place;
+use crate::reading::{Reading, add_block, start};
+use o2_disk::Disk;
+use o2_model::Geo;
+use o2_view::{View, ViewFault};
+use std::alloc::Global;
+
+/// Reads the block at this place.
+fn read_place<D: Disk, const N: usize>(
+    alloc: Global,
+    view: &mut View<'_, D, N>,
+    geo: &Geo,
+    p: &Place,
+    reading: &mut Reading,
+) -> Result<(), ViewFault>
+    requires geo { LiesIn geo.now view.old }
+    requires inside { p.now.block < view_blocks view.old }
+    ensures read { OnOk result ((I : Image) → (view_state view.old).content ≡ Some I → (bs : List DirBlock) → Keeps reading.old bs
+        → Keeps reading.new (push bs (block_at_place (volume_seen geo.now I) p.now))) }
+    ensures reads { OnlyReads view.old view.new }
+    ensures fault { IsErrOf result ViewFault.DeviceFault → Rose (view_state view.old).faults (view_state view.new).faults }
+{
+    let _bytes = block_bytes(geo);
+    let block = view.block(p.block)?;
+    add_block(alloc, block.as_slice(), p.place, p.block, reading)?;
+    Ok(())
+}
+
+/// Reads the blocks at these places.
+pub fn read_places<D: Disk, const N: usize>(
+    alloc: Global,
+    view: &mut View<'_, D, N>,
+    geo: &Geo,
+    places: &[Place],
+) -> Result<Reading, ViewFault>
+    requires geo { LiesIn geo.now view.old }
+    requires inside { All (λ p. p.block < view_blocks view.old) places.now }
+    ensures read { IfOk result (λ reading. (I : Image) → (view_state view.old).content ≡ Some I
+        → Keeps reading (map (block_at_place (volume_seen geo.now I)) places.now)) }
+    ensures reads { OnlyReads view.old view.new }
+    ensures fault { IsErrOf result ViewFault.DeviceFault → Rose (view_state view.old).faults (view_state view.new).faults }
+{
+    let mut reading = start(alloc);
+    for p in places {
+        read_place(alloc, view, geo, p, &mut reading)?;
+    }
+    Ok(reading)
+}

@@ -1,0 +1,16 @@
+//! The entries of a directory.
+#![tactic(auto)]
+
+mod blocks;
+mod dots;
+mod entries_in_block;
+mod entry;
+mod fault;
+mod geometry;
+mod mapped_directory;
+mod places;
+mod reading;
+
+pub use entry::{Entries, Entry};
+pub use fault::DirFault;
+pub use mapped_directory::mapped;

@@ -1,0 +1,69 @@
+// A directory whose entries stand in its blocks.
+ghost use Rattle.std.specs.Prelude.{◌≡◌, ◌≤◌, ◌/◌, ◌%◌, ◌==◌, ◌&&◌, nat_lt, length, ℕ, map, IfOk, IsErrOf, Some};
+ghost use Rattle.std.specs.Result.{IfErr};
+ghost use Rattle.o2_disk.specs.Image.{Image};
+ghost use Rattle.o2_disk.specs.Device.{Rose};
+ghost use Rattle.o2_view.specs.Views.{view_state};
+ghost use Rattle.o2_model.specs.Directories.{directory_entries};
+ghost use Rattle.o2_extent.specs.Seen.{LiesIn, volume_seen};
+ghost use Rattle.o2_extent.specs.Reads.{OnlyReads};
+ghost use Rattle.o2_dir.specs.Fails.{FailsNone, FailsFirst, IsMapped};
+ghost use Rattle.o2_dir.specs.Told.{told};
+
+use crate::blocks::read_places;
+use crate::geometry::{block_bytes, blocks_per_cluster, volume_blocks};
+use crate::places::{Place, places_of_leaves};
+use crate::reading::settle;
+use crate::{DirFault, Entries};
+use o2_disk::Disk;
+use o2_extent::Leaf;
+use o2_model::{Check, Geo};
+use o2_view::View;
+use std::alloc::Global;
+
+/// Whether a directory of this size has these blocks.
+fn has_size(size: u64, bytes: u64, places: &[Place]) -> bool
+    requires { 1 ≤ bytes }
+    ensures { result ≡ (nat_lt 0 size && size % bytes == 0 && length places.now == size / bytes) }
+{
+    let count = places.len() as u64;
+    0 < size && size % bytes == 0 && count == size / bytes
+}
+
+/// The entries in the blocks that the records map.
+pub fn mapped<D: Disk, const N: usize>(
+    alloc: Global,
+    view: &mut View<'_, D, N>,
+    geo: &Geo,
+    inode: u64,
+    size: u64,
+    leaves: &[Leaf],
+) -> Result<Entries, DirFault>
+    requires geo { LiesIn geo.now view.old }
+    requires is { (I : Image) → (view_state view.old).content ≡ Some I → IsMapped (volume_seen geo.now I) inode size leaves.now }
+    ensures entries { IfOk result (λ entries. (I : Image) → (view_state view.old).content ≡ Some I → map told entries ≡ directory_entries (volume_seen geo.now I) inode) }
+    ensures sound { IfOk result (λ _. (I : Image) → (view_state view.old).content ≡ Some I → FailsNone (volume_seen geo.now I) inode) }
+    ensures bad { IfErr result (λ fault. (check : Check) (b : ℕ) → fault ≡ DirFault.Bad check b → (I : Image) → (view_state view.old).content ≡ Some I
+        → FailsFirst (volume_seen geo.now I) inode check b) }
+    ensures present { IsErrOf result DirFault.Absent → ⊥ }
+    ensures reads { OnlyReads view.old view.new }
+    ensures fault { IsErrOf result DirFault.DeviceFault → Rose (view_state view.old).faults (view_state view.new).faults }
+{
+    let bytes = block_bytes(geo);
+    let per_cluster = blocks_per_cluster(geo);
+    let blocks = volume_blocks(geo);
+    let Some(places) = places_of_leaves(alloc, per_cluster, size / bytes, blocks, leaves)? else {
+        return Err(DirFault::Bad {
+            check: Check::Extent,
+            block: inode,
+        });
+    };
+    if !has_size(size, bytes, places.as_slice()) {
+        return Err(DirFault::Bad {
+            check: Check::InodeSize,
+            block: inode,
+        });
+    }
+    let reading = read_places(alloc, view, geo, places.as_slice())?;
+    settle(reading)
+}
