@@ -64,3 +64,7 @@ RefusesWords words NoMemory = ⊥
 -- the label that a command line gives
 abbrev pub label_of : Words → List ℕ
 label_of words = slice_index_or words 2 []
+
+-- the device's name that it gives
+abbrev pub device_of : Words → List ℕ
+device_of words = slice_index_or words 3 []

@@ -29,6 +29,7 @@ pub fn set_label<D: Disk>(
     ensures answer { (I : Image) → (D.state device.old).content ≡ Some I → MatchResult result (λ _. refusal_of label.now I ≡ None) (IsCauseFor (refusal_of label.now I)) }
     ensures length { IfErr result (λ cause. (which : _) (value : ℕ) → cause ≡ Cause.Range which value → label_refusal label.now ≡ Some cause) }
     ensures no_usage { IfErr result (λ cause. (place : ℕ) → cause ≢ Cause.Usage place) }
+    ensures named { (IsErrOf result Cause.NoMemory → ⊥) → (D.state device.new).name ≡ name.now }
     ensures fault { IsErrOf result Cause.DeviceFault → Rose (D.state device.old).faults (D.state device.new).faults }
     ensures done { OnOk result (Told (λ I J. J ≡ relabelled label.now I) (D.state device.old) (D.state device.new)) }
     ensures either { Told (λ I J. (J ≡ I) ⊎ (J ≡ relabelled label.now I)) (D.state device.old) (D.state device.new) }
@@ -57,6 +58,7 @@ fn open_volume<D: Disk>(alloc: Global, device: &mut D, name: &str) -> Result<Sup
     ensures refused { IfErr result (λ cause. (I : Image) → (D.state device.old).content ≡ Some I → IsCauseFor (volume_refusal I) cause) }
     ensures no_range { IfErr result (λ cause. (which : _) (value : ℕ) → cause ≢ Cause.Range which value) }
     ensures no_usage { IfErr result (λ cause. (place : ℕ) → cause ≢ Cause.Usage place) }
+    ensures named { (IsErrOf result Cause.NoMemory → ⊥) → (D.state device.new).name ≡ name.now }
     ensures fault { IsErrOf result Cause.DeviceFault → Rose (D.state device.old).faults (D.state device.new).faults }
     ensures reads { ReadsOnly (D.state device.old) (D.state device.new) }
     ensures faults { OnOk result ((D.state device.new).faults ≡ (D.state device.old).faults) }
@@ -109,6 +111,7 @@ fn put_label<D: Disk>(device: &mut D, sector: &SuperSector, label: &[u8; 64]) ->
     ensures any_moment { (I : Image) → IsSettled (D.state device.old) I → IsSuperSector I sector.now
         → LeavesOnly (D.state device.old) (D.state device.new) (λ X. (X ≡ I) ⊎ (X ≡ with_label sector.now.bits label.now I)) }
     ensures settled { OnOk result ((I : Image) → IsSettled (D.state device.old) I → IsSuperSector I sector.now → IsSettled (D.state device.new) (with_label sector.now.bits label.now I)) }
+    ensures device { SameDevice (D.state device.old) (D.state device.new) }
     ensures cause { HasCause (D.state device.old).faults (D.state device.new).faults result }
 {
     if sector.superblock().label == *label {

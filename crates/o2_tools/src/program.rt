@@ -4,7 +4,7 @@ ghost use Rattle.o2_disk.specs.Device.{ReadsOnly, Rose, IsSettled, LeavesOnly, T
 ghost use Rattle.o2_model.specs.Image.{Image};
 ghost use Rattle.o2_model.specs.Label.{relabelled};
 ghost use Rattle.o2_tools.specs.Answer.{label_refusal, refusal_of, IsAnswer};
-ghost use Rattle.o2_tools.specs.CommandLine.{texts, IsLine, RefusesWords, label_of};
+ghost use Rattle.o2_tools.specs.CommandLine.{texts, IsLine, RefusesWords, label_of, device_of};
 ghost use Rattle.o2_tools.specs.Status.{status_of, IsRefusal};
 
 use crate::label::set_label;
@@ -37,6 +37,10 @@ pub fn run<D: Disk, E: Disk, K: Sink>(
     ensures answer { IsLine (texts words.now) → (I : Image) → (D.state device.old).content ≡ Some I → IsAnswer (refusal_of (label_of (texts words.now)) I) result.cause }
     ensures range { (which : _) (value : ℕ) → result.cause ≡ Cause.Range which value → label_refusal (label_of (texts words.now)) ≡ Some result.cause }
     ensures fault { result.cause ≡ Cause.DeviceFault → Rose (D.state device.old).faults (D.state device.new).faults }
+
+    // The device is attached under the name that the command line gives. Other words leave it alone.
+    ensures named { IsLine (texts words.now) → result.cause ≢ Cause.NoMemory → (D.state device.new).name ≡ device_of (texts words.now) }
+    ensures alone { (IsLine (texts words.now) → ⊥) → device.new ≡ device.old }
 
     // Fine leaves the volume with the label. A refusal writes nothing, nor does a label that is there already.
     ensures done { result.cause ≡ Cause.Fine → Told (λ I J. J ≡ relabelled (label_of (texts words.now)) I) (D.state device.old) (D.state device.new) }
