@@ -9,10 +9,10 @@ ghost use Rattle.o2_extent.specs.Seen.{LiesIn, volume_seen};
 ghost use Rattle.o2_extent.specs.Reads.{OnlyReads};
 ghost use Rattle.o2_dir.specs.Blocks.{Keeps, block_at_place};
 
-use crate::geometry::block_bytes;
 use crate::places::Place;
 use crate::reading::{Reading, add_block, start};
 use o2_disk::Disk;
+use o2_extent::block_bytes;
 use o2_model::Geo;
 use o2_view::{View, ViewFault};
 use std::alloc::Global;

@@ -6,7 +6,6 @@ mod dots;
 mod entries_in_block;
 mod entry;
 mod fault;
-mod geometry;
 mod mapped_directory;
 mod places;
 mod reading;

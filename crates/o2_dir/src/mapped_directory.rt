@@ -11,12 +11,11 @@ ghost use Rattle.o2_dir.specs.Fails.{FailsNone, FailsFirst, IsMapped};
 ghost use Rattle.o2_dir.specs.Told.{told};
 
 use crate::blocks::read_places;
-use crate::geometry::{block_bytes, blocks_per_cluster, volume_blocks};
 use crate::places::{Place, places_of_leaves};
 use crate::reading::settle;
 use crate::{DirFault, Entries};
 use o2_disk::Disk;
-use o2_extent::Leaf;
+use o2_extent::{Leaf, block_bytes, blocks_per_cluster, volume_blocks};
 use o2_model::{Check, Geo};
 use o2_view::View;
 use std::alloc::Global;

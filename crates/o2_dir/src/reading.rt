@@ -12,6 +12,7 @@ use crate::entries_in_block::add_entries;
 use crate::places::put;
 use crate::{DirFault, Entries, Entry};
 use o2_disk::NoMemory;
+use o2_extent::least;
 use o2_model::Check;
 use std::alloc::Global;
 
@@ -63,13 +64,6 @@ pub fn add_block(
         return put(&mut reading.faults, block);
     }
     Ok(())
-}
-
-/// The least of some blocks.
-fn least(blocks: &[u64]) -> Option<u64>
-    ensures { MatchOption result (blocks.now ≡ []) (λ least. IsLeast least blocks.now) }
-{
-    blocks.iter().copied().min()
 }
 
 /// The entries, where all blocks are sound.

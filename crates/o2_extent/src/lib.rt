@@ -13,9 +13,14 @@ mod reading;
 mod runs;
 mod tree;
 
-pub use inode_records::records;
+pub use dinode::{has_list, is_fast_link, is_inline};
+pub use geometry::{block_bytes, blocks_per_cluster, volume_blocks};
+pub use inode::{Inode, read_inode};
+pub use inode_records::{least, records};
 pub use leaf::{Leaf, Leaves};
 pub use maps::map_cluster;
+pub use pieces::add_bytes;
+pub use reading::Reading;
 pub use runs::{ExtentList, list_of_runs};
 
 #[cfg(test)]

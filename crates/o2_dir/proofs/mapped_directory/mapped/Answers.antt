@@ -12,7 +12,7 @@ pub returns-in_default-clause-bad : goal.returns-in_default-clause-bad
 returns-in_default-clause-bad g c check b is I told =
     let v = volume_seen c.args.geo.now I in
     let none = rw c.in_default.is at c.in_ok-places.ensures.none in
-    absurd (none (ends_told v c.args.inode c.args.size c.args.leaves.now (c.requires.is I told) _ _ c.blocks_per_cluster-per_cluster.ensures.blocks c.volume_blocks-blocks.ensures))
+    absurd (none (ends_told v c.args.inode c.args.size c.args.leaves.now (c.requires.is I told) _ _ c.blocks_per_cluster-per_cluster.ensures.blocks c.volume_blocks-blocks.ensures.blocks))
 
 pub returns-then-not-has_size-clause-bad : goal.returns-then-not-has_size-clause-bad
 returns-then-not-has_size-clause-bad g c check b is I told =
