@@ -6,10 +6,12 @@ mod dots;
 mod entries_in_block;
 mod entry;
 mod fault;
+mod inline_directory;
 mod mapped_directory;
 mod places;
 mod reading;
 
 pub use entry::{Entries, Entry};
 pub use fault::DirFault;
+pub use inline_directory::inlined;
 pub use mapped_directory::mapped;
