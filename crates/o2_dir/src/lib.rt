@@ -10,6 +10,7 @@ mod inline_directory;
 mod mapped_directory;
 mod places;
 mod reading;
+mod sound_inode;
 
 pub use entry::{Entries, Entry};
 pub use fault::DirFault;
