@@ -2,6 +2,7 @@
 #![tactic(auto)]
 
 mod blocks;
+mod directory;
 mod dots;
 mod entries_in_block;
 mod entry;
@@ -12,7 +13,6 @@ mod places;
 mod reading;
 mod sound_inode;
 
+pub use directory::entries;
 pub use entry::{Entries, Entry};
 pub use fault::DirFault;
-pub use inline_directory::inlined;
-pub use mapped_directory::mapped;
