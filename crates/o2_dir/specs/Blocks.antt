@@ -1,5 +1,5 @@
 -- The blocks of a directory by the leaf records of its extents.
-use Rattle.std.specs.Prelude.{◌≡◌, ℕ, ◌+◌, ◌*◌, ◌≤◌, nat_lt, Bool, ◌&&◌, not, List, [], map, filter, flat_map, bytes_eq}
+use Rattle.std.specs.Prelude.{◌≡◌, ℕ, ◌+◌, ◌*◌, ◌≤◌, nat_lt, Bool, ◌&&◌, not, List, map, filter, flat_map, bytes_eq}
 use Rattle.std.specs.List.{range_with_len}
 use Rattle.o2_ondisk.specs.Bits.{has_bits}
 use Rattle.o2_model.specs.Volume.{Volume}
@@ -43,7 +43,7 @@ block_at_place v p = record { place = p.place; block = p.block; found = entries_
 abbrev pub begins_with : List ℕ → List ℕ → Bool
 begins_with name bytes = has_entry bytes && (is_live (entry_at_front bytes) && bytes_eq (entry_at_front bytes).name name)
 
--- What was read of these blocks: those that are not sound, and where all are, the entries.
+-- What was read of these blocks: those that are not sound, and the entries of all that their entries fill.
 pub record Keeps (reading : Reading) (blocks : List DirBlock) : Type 0 where
   pub faults : reading.faults.items ≡ fails_at (λ b. b.block) is_sound_dir_block blocks
-  pub entries : reading.faults.items ≡ [] → map told reading.entries.items ≡ flat_map entries_of_block blocks
+  pub entries : map told reading.entries.items ≡ flat_map entries_of_block blocks
