@@ -117,7 +117,7 @@ mapped_one : (v : Volume) (r : ExtentRec) (ks : List ℕ) → map (dir_block v (
 mapped_one v r [] = refl
 mapped_one v r (k ∷ ks) = ap (λ bs. dir_block v (r.cpos * per_cluster v) r.blkno k ∷ bs) (mapped_one v r ks)
 
-mapped_all : (v : Volume) (limit : ℕ) (rs : List ExtentRec) → flat_map (mapped v limit) (filter is_written rs) ≡ map (block_at_place v) (places_of (per_cluster v) limit (map leaf_of rs))
+pub mapped_all : (v : Volume) (limit : ℕ) (rs : List ExtentRec) → flat_map (mapped v limit) (filter is_written rs) ≡ map (block_at_place v) (places_of (per_cluster v) limit (map leaf_of rs))
 mapped_all v limit [] = refl
 mapped_all v limit (r ∷ rs) = elim (cases_Bool (is_written r)) [
   | inr unwritten ↦ rw unwritten (mapped_all v limit rs)

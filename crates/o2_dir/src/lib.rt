@@ -2,11 +2,13 @@
 #![tactic(auto)]
 
 mod blocks;
+mod directory_blocks;
 mod dots;
 mod entries_in_block;
 mod entry;
 mod fault;
 mod mapped_directory;
+mod parts;
 mod places;
 mod reading;
 

@@ -157,11 +157,5 @@ pub fn places_of_leaves(
     if !all_end_in(leaves, per_cluster, blocks) {
         return Ok(None);
     }
-    Ok(Some(places_within(
-        alloc,
-        per_cluster,
-        limit,
-        blocks,
-        leaves,
-    )?))
+    Ok(Some(places_within(alloc, per_cluster, limit, blocks, leaves)?))
 }

@@ -1,5 +1,5 @@
 -- One record more.
-use Rattle.std.proofs.Common.{◌≡◌, List, All, get_or, take, sym, subst}
+use Rattle.std.proofs.Common.{List, All, take, sym, subst}
 use Rattle.std.proofs.lemmas.List.{take_more, take_all}
 use Rattle.std.proofs.lemmas.List.Elements.{All-push}
 use Rattle.o2_extent.specs.declared.leaf.Leaf.{Leaf}
