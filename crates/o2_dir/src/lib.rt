@@ -8,6 +8,7 @@ mod entries_in_block;
 mod entry;
 mod fault;
 mod mapped_directory;
+mod own_inodes;
 mod parts;
 mod places;
 mod reading;
