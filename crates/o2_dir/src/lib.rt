@@ -7,6 +7,7 @@ mod dots;
 mod entries_in_block;
 mod entry;
 mod fault;
+mod file_size;
 mod mapped_directory;
 mod own_inodes;
 mod parts;
