@@ -7,6 +7,7 @@ mod dots;
 mod entries_in_block;
 mod entry;
 mod fault;
+mod file_bytes;
 mod file_size;
 mod mapped_directory;
 mod own_inodes;
@@ -16,4 +17,5 @@ mod reading;
 
 pub use entry::{Entries, Entry};
 pub use fault::DirFault;
+pub use file_bytes::read_bytes;
 pub use mapped_directory::mapped;
