@@ -1,15 +1,16 @@
 -- A part of a file's bytes.
-use Rattle.std.proofs.Common.{◌≡◌, inl, inr, ℕ, ◌+◌, ◌-◌, ◌≤◌, Bool, true, false, List, [], ◌++◌, map, take, drop, length, sym, ◌∙◌, ap, subst, arith}
+use Rattle.std.proofs.Common.{◌≡◌, inl, inr, ℕ, ◌+◌, ◌-◌, ◌≤◌, Bool, true, false, List, [], ◌++◌, map, take, drop, length, sym, ◌∙◌, ap, subst, arith, ◌||◌}
 use Rattle.std.specs.Prelude.{min}
 use Rattle.std.specs.List.{range_with_len}
 use Rattle.std.proofs.lemmas.Bool.{cases_lt}
 use Rattle.std.proofs.lemmas.List.{drop_all, take_min}
 use Rattle.std.proofs.lemmas.List.FromFn.{length-map-range_with_len, take-map-range_with_len}
 use Rattle.std.proofs.Math.Seq.{drop-append_seam, take-nil}
+use Rattle.o2_ondisk.specs.Kinds.{kind_of_mode}
 use Rattle.o2_ondisk.specs.Dinodes.{dinode_of}
 use Rattle.o2_ondisk.specs.declared.dinode.Dinode.{Dinode}
 use Rattle.o2_model.specs.Volume.{Volume, dinode}
-use Rattle.o2_model.specs.Inodes.{is_inline, is_fast_link, has_fast_text, leaf_records}
+use Rattle.o2_model.specs.Inodes.{is_file, is_link, is_file_kind, is_link_kind, is_inline, is_fast_link, has_fast_text, leaf_records}
 use Rattle.o2_model.specs.Contents.{byte_of, bytes_of}
 use Rattle.o2_model.specs.Words.{IsLeast}
 use Rattle.o2_model.specs.declared.check.Check.{Check}
@@ -85,6 +86,13 @@ pub fast_told : (bytes at : List ℕ) (d : Dinode) (told_of is : Bool) → bytes
 fast_told bytes at d told_of is holds dinode_is tells tested =
     ap (λ bs. has_fast_text (dinode_of bs)) (sym holds)
     ∙ (ap (λ (x : Dinode). has_fast_text x) (sym dinode_is) ∙ (sym tells ∙ tested))
+
+pub kind_told : (v : Volume) (b : ℕ) (d : Dinode) → d ≡ dinode v b → (is_file_kind (kind_of_mode d.mode) || is_link_kind (kind_of_mode d.mode)) ≡ (is_file v b || is_link v b)
+unfolding is_file is_link
+kind_told v b d is = ap (λ (x : Dinode). is_file_kind (kind_of_mode x.mode) || is_link_kind (kind_of_mode x.mode)) is
+
+pub true_is_false : true ≡ false → ⊥
+true_is_false h = cc
 
 -- ---- what is wrong
 pub fails_extent : (v : Volume) (b at least_block : ℕ) (check : Check) (faults : List ℕ) → check ≡ Extent → least_block ≡ at → faults ≡ extent_faults v b → IsLeast least_block faults → DataFailsFirst v b check at

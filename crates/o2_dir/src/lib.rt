@@ -2,6 +2,7 @@
 #![tactic(auto)]
 
 mod blocks;
+mod data_inode;
 mod directory_blocks;
 mod dots;
 mod entries_in_block;
@@ -15,6 +16,7 @@ mod parts;
 mod places;
 mod reading;
 
+pub use data_inode::has_bytes;
 pub use entry::{Entries, Entry};
 pub use fault::DirFault;
 pub use file_bytes::read_bytes;
