@@ -47,7 +47,7 @@ blocks_in_dinode inode size bytes = record { place = 0; block = inode; found = e
 abbrev pub begins_with : List ℕ → List ℕ → Bool
 begins_with name bytes = has_entry bytes && (is_live (entry_at_front bytes) && bytes_eq (entry_at_front bytes).name name)
 
--- What was read of these blocks: those that are not sound, and where all are, the entries.
+-- What was read of these blocks: those that are not sound, and the entries of all that their entries fill.
 pub record Keeps (reading : Reading) (blocks : List DirBlock) : Type 0 where
   pub faults : reading.faults.items ≡ fails_at (λ b. b.block) is_sound_dir_block blocks
-  pub entries : reading.faults.items ≡ [] → map told reading.entries.items ≡ flat_map entries_of_block blocks
+  pub entries : map told reading.entries.items ≡ flat_map entries_of_block blocks
