@@ -105,6 +105,6 @@ bad_told r reading d size bytes room kept test = IfErr-weaker r
     (λ fault. (check : Check) (b : ℕ) → fault ≡ Faults.Bad check b → (check ≡ Checks.DirBlock) × IsLeast b reading.faults.items)
     (λ fault. (check : Check) (b : ℕ) → fault ≡ Faults.Bad check b → (v : Volume) → length bytes ≡ 2 ^ v.geo.block_bits → IsInline v d size bytes → FailsFirst v d check b)
     (λ fault bad check b is v long h.
-      let first = bad check b is in
-      fails_blocks v d check b reading.faults.items first.0 h.sound (size_is v d size bytes long h ∙ test)
-        (faults_kept v d (blocks_in_dinode d size bytes) reading (blocks_are v d size bytes long h room) kept) first.1)
+    let first = bad check b is in
+    fails_blocks v d check b reading.faults.items first.0 h.sound (size_is v d size bytes long h ∙ test)
+    (faults_kept v d (blocks_in_dinode d size bytes) reading (blocks_are v d size bytes long h room) kept) first.1)
