@@ -1,4 +1,4 @@
-//! The entries of a directory.
+//! Directories: their entries, names and paths. And the bytes of files, whose size is judged by the system directory's entries.
 #![tactic(auto)]
 
 mod blocks;
@@ -20,6 +20,7 @@ mod path_step;
 mod path_text;
 mod places;
 mod reading;
+mod route;
 mod sound_inode;
 
 pub use data_inode::has_bytes;
@@ -29,3 +30,4 @@ pub use fault::{DirFault, PathFault};
 pub use file_bytes::read_bytes;
 pub use names::{look_up, system_file};
 pub use path_text::{PathText, is_path};
+pub use route::path;
