@@ -140,3 +140,6 @@ pub fn read_bytes<D: Disk, const N: usize>(
     let out = read_data(alloc, view, geo, bytes, leaves, at, len)?;
     Ok(Bytes::from(out))
 }
+
+#[cfg(test)]
+mod tests;
