@@ -1,5 +1,5 @@
 -- The blocks of a directory by the leaf records of its extents.
-use Rattle.std.specs.Prelude.{◌≡◌, ℕ, ◌+◌, ◌*◌, ◌≤◌, nat_lt, Bool, ◌&&◌, not, List, map, filter, flat_map, bytes_eq}
+use Rattle.std.specs.Prelude.{◌≡◌, ℕ, ◌+◌, ◌*◌, ◌≤◌, nat_lt, Bool, ◌&&◌, not, List, [], ◌∷◌, map, filter, flat_map, bytes_eq, take, drop}
 use Rattle.std.specs.List.{range_with_len}
 use Rattle.o2_ondisk.specs.Bits.{has_bits}
 use Rattle.o2_model.specs.Volume.{Volume}
@@ -38,6 +38,10 @@ EndsIn per_cluster blocks leaf = leaf.block + leaf.clusters * per_cluster ≤ bl
 -- the block at this place, with the entries that fill it
 abbrev pub block_at_place : Volume → Place → DirBlock
 block_at_place v p = record { place = p.place; block = p.block; found = entries_in (v.at p.block) }
+
+-- the inline bytes of a dinode of these bytes as a directory's one block, with the entries that fill them
+unfoldable pub blocks_in_dinode : ℕ → ℕ → List ℕ → List DirBlock
+blocks_in_dinode inode size bytes = record { place = 0; block = inode; found = entries_in (take size (drop 0xc8 bytes)) } ∷ []
 
 -- a live entry of this name stands at the front of the bytes
 abbrev pub begins_with : List ℕ → List ℕ → Bool
