@@ -36,7 +36,7 @@ pub fn is_valid_dinode(geo: &Geo, b: u64, dinode: &Dinode) -> bool
 fn is_of_file_or_link(dinode: &Dinode) -> bool
     ensures { result ≡ (is_file_kind (kind_of_mode dinode.now.mode) || is_link_kind (kind_of_mode dinode.now.mode)) }
 {
-    match Kind::of_mode(dinode.mode) {
+    match dinode.kind() {
         Some(Kind::File) => true,
         Some(Kind::Link) => true,
         _ => false,
