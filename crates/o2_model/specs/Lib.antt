@@ -6,7 +6,9 @@ pub mod Names
 pub mod Geometry
 pub mod Volume
 pub mod Words
+pub mod Orders
 pub mod Clusters
+pub mod ClusterGroups
 pub mod Extents
 pub mod Inodes
 pub mod Directories
