@@ -31,3 +31,9 @@ pub mod Frames
 pub mod Failing
 pub mod Structures
 pub mod Consistent
+pub mod Logs
+pub mod Dirty
+pub mod Anchors
+pub mod Replay
+pub mod AfterReplay
+pub mod Owned

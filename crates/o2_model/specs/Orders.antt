@@ -1,5 +1,5 @@
 -- Numbers in order, and items that come again.
-use Rattle.std.specs.Prelude.{ℕ, Bool, true, false, not, nat_lt, List, [], ◌∷◌, ◌++◌, map, filter}
+use Rattle.std.specs.Prelude.{ℕ, Bool, true, false, not, nat_lt, List, [], ◌∷◌, ◌++◌, map, filter, Option, Some, None}
 use Rattle.std.specs.FinMap as finite
 use Rattle.std.specs.Ordering.{nat_cmp}
 use Rattle.std.specs.List.{range_with_len}
@@ -21,3 +21,8 @@ later_like alike (x ∷ xs) = filter (alike x) xs ++ later_like alike xs
 abbrev pub is_none_of : {A : Type 0} → List A → Bool
 is_none_of [] = true
 is_none_of (x ∷ xs) = false
+
+-- the first of the list
+abbrev pub first_of : {A : Type 0} → List A → Option A
+first_of [] = None
+first_of (x ∷ xs) = Some x

@@ -1,10 +1,10 @@
 -- What stands on a volume that is outside the profile.
-use Rattle.std.specs.Prelude.{ℕ, Bool, ◌&&◌, ◌==◌, nat_lt, List, [], ◌∷◌, ◌++◌, map, filter, drop, Option, Some, None}
+use Rattle.std.specs.Prelude.{ℕ, Bool, ◌&&◌, ◌==◌, nat_lt, List, ◌++◌, map, filter, drop, Option}
 use Rattle.o2_ondisk.specs.Bits.{has_bits, has_xattr_dyn_feature, dio_orphaned_inode_flag}
 use Rattle.o2_ondisk.specs.ExtentListHeaders.{extent_list_header_of}
 use Rattle.o2_model.specs.declared.oddity.Oddity.{Oddity}
 use Rattle.o2_model.specs.declared.oddity.Oddity.TheVariants.{DiscontiguousGroup, Attributes, DioOrphan}
-use Rattle.o2_model.specs.Orders.{rising}
+use Rattle.o2_model.specs.Orders.{rising, first_of}
 use Rattle.o2_model.specs.Volume.{Volume, dinode}
 use Rattle.o2_model.specs.Groups.{groups, group_desc, inodes_of}
 
@@ -26,10 +26,6 @@ direct_write_orphans v = filter (λ b. has_bits (dinode v b).flags.0 dio_orphane
 -- each of these blocks for that reason
 abbrev pub each_for : Oddity → List ℕ → List (Oddity × ℕ)
 each_for reason blocks = map (λ b. (reason, b)) blocks
-
-abbrev pub first_of : List (Oddity × ℕ) → Option (Oddity × ℕ)
-first_of [] = None
-first_of (pair ∷ rest) = Some pair
 
 -- The first group or inode that is not supported: the least discontiguous group, else the least inode with attributes, else the
 -- least orphan of a direct write.
