@@ -27,7 +27,6 @@ pub mod Slots
 pub mod Claims
 pub mod Journals
 pub mod Checks
-pub mod Frames
 pub mod Failing
 pub mod Structures
 pub mod Consistent
@@ -37,3 +36,4 @@ pub mod Anchors
 pub mod Replay
 pub mod AfterReplay
 pub mod Owned
+pub mod Frames

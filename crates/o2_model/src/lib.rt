@@ -6,11 +6,13 @@ mod check;
 mod claim;
 mod entry_laws;
 mod extent_laws;
+mod frame_laws;
 mod geo;
 mod journal_part;
 mod laws;
 mod oddity;
 mod system_file;
+mod walk_laws;
 
 pub use allocator::{Allocator, BitUse, Group};
 pub use check::Check;
@@ -19,8 +21,14 @@ pub use entry_laws::entries_fill_their_bytes;
 pub use extent_laws::{
     few_blocks_are_looked_at, leaf_records_are_those_below, other_blocks_keep_extents,
 };
+pub use frame_laws::{
+    other_blocks_keep_entries, other_blocks_keep_groups, tables_tell_inodes_and_tree,
+};
 pub use geo::Geo;
 pub use journal_part::JournalPart;
 pub use laws::{geometry_tells_block_bits, label_alone_changes};
 pub use oddity::Oddity;
 pub use system_file::{SlotFile, SystemFile};
+pub use walk_laws::{
+    chains_end, no_directory_is_entered_twice, no_group_is_walked_twice, tree_walk_ends,
+};

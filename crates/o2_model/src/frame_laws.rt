@@ -1,0 +1,30 @@
+// Laws of what depends on which blocks, each the contract of a function that does nothing.
+ghost use Rattle.std.specs.Prelude.{◌≡◌, ℕ, List, map, []};
+ghost use Rattle.o2_model.specs.Volume.{Volume, over};
+ghost use Rattle.o2_model.specs.Frames.{SameOn, SameTables, IsIn, group_blocks};
+ghost use Rattle.o2_model.specs.Inodes.{extents};
+ghost use Rattle.o2_model.specs.Directories.{dir_blocks, directory_entries};
+ghost use Rattle.o2_model.specs.Allocators.{allocators};
+ghost use Rattle.o2_model.specs.Groups.{group_walk, is_inode, inodes_of};
+ghost use Rattle.o2_model.specs.Tree.{followed, tree_walk, tree_of};
+
+/// A law: a directory's entries depend on its dinode, its extents and its blocks, and on no other block.
+pub fn other_blocks_keep_entries()
+    ensures { (v : Volume) (at : ℕ → List ℕ) (d : ℕ) → at d ≡ v.at d → extents (over v at) d ≡ extents v d → SameOn (map (λ b. b.block) (dir_blocks v d)) v at
+        → directory_entries (over v at) d ≡ directory_entries v d }
+{}
+
+/// A law: where every link is right, the groups depend on which allocators there are, on their dinodes and on the groups'
+/// own descriptors, and on no other block.
+pub fn other_blocks_keep_groups()
+    ensures { (v : Volume) (at : ℕ → List ℕ) → allocators (over v at) ≡ allocators v → SameOn (map (λ a. a.block) (allocators v)) v at
+        → SameOn (group_blocks (group_walk v)) v at → (group_walk v).faults ≡ [] → group_walk (over v at) ≡ group_walk v }
+{}
+
+/// A law: where groups, bits, the blocks of inodes and the entries are the same, so are the inodes and the tree.
+pub fn tables_tell_inodes_and_tree()
+    ensures inode { (v : Volume) (at : ℕ → List ℕ) → SameTables v at → (b : ℕ) → is_inode (over v at) b ≡ is_inode v b }
+    ensures inodes { (v : Volume) (at : ℕ → List ℕ) → SameTables v at → inodes_of (over v at) ≡ inodes_of v }
+    ensures followed { (v : Volume) (at : ℕ → List ℕ) → SameTables v at → (d : ℕ) → IsIn v d → followed (over v at) d ≡ followed v d }
+    ensures tree { (v : Volume) (at : ℕ → List ℕ) → SameTables v at → tree_walk (over v at) ≡ tree_walk v }
+{}
