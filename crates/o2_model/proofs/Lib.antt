@@ -12,3 +12,5 @@ pub mod SameEntries
 pub mod Rising
 pub mod Failing
 pub mod SameInodes
+pub mod NothingFails
+pub mod Replays

@@ -11,6 +11,7 @@ mod geo;
 mod journal_part;
 mod laws;
 mod oddity;
+mod replay_laws;
 mod system_file;
 mod walk_laws;
 
@@ -28,6 +29,7 @@ pub use geo::Geo;
 pub use journal_part::JournalPart;
 pub use laws::{geometry_tells_block_bits, label_alone_changes};
 pub use oddity::Oddity;
+pub use replay_laws::{clean_image_has_no_variant, consistent_image_stays, each_check_holds};
 pub use system_file::{SlotFile, SystemFile};
 pub use walk_laws::{
     chains_end, no_directory_is_entered_twice, no_group_is_walked_twice, tree_walk_ends,
