@@ -14,3 +14,4 @@ pub mod Failing
 pub mod SameInodes
 pub mod NothingFails
 pub mod Replays
+pub mod LogReadings

@@ -31,6 +31,7 @@ pub mod Failing
 pub mod Structures
 pub mod Consistent
 pub mod Logs
+pub mod LogGrammar
 pub mod Dirty
 pub mod Anchors
 pub mod Replay

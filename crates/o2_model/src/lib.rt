@@ -10,6 +10,7 @@ mod frame_laws;
 mod geo;
 mod journal_part;
 mod laws;
+mod log_laws;
 mod oddity;
 mod replay_laws;
 mod system_file;
@@ -28,6 +29,7 @@ pub use frame_laws::{
 pub use geo::Geo;
 pub use journal_part::JournalPart;
 pub use laws::{geometry_tells_block_bits, label_alone_changes};
+pub use log_laws::log_is_what_its_blocks_spell;
 pub use oddity::Oddity;
 pub use replay_laws::{clean_image_has_no_variant, consistent_image_stays, each_check_holds};
 pub use system_file::{SlotFile, SystemFile};
