@@ -2,6 +2,7 @@
 #![tactic(auto)]
 
 mod allocator;
+mod case_laws;
 mod check;
 mod claim;
 mod entry_laws;
@@ -17,6 +18,9 @@ mod system_file;
 mod walk_laws;
 
 pub use allocator::{Allocator, BitUse, Group};
+pub use case_laws::{
+    bits_on_cases, hashes_on_cases, names_on_cases, orders_on_cases, revokes_on_cases,
+};
 pub use check::Check;
 pub use claim::{Claim, Owner};
 pub use entry_laws::entries_fill_their_bytes;
