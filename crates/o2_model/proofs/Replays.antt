@@ -1,10 +1,11 @@
 -- Where nothing is dirty there is nothing to replay.
 use Rattle.std.proofs.Common.{◌≡◌, ◌⊎◌, inl, inr, ⊎_elim, ℕ, ◌<◌, Bool, true, false, not, List, [], ◌∷◌, ◌++◌, length, refl, sym, ◌∙◌, ap, subst, ext_get_or, Option, Some, None}
-use Rattle.std.specs.Prelude.{filter, flat_map, option_and_then}
+use Rattle.std.specs.Prelude.{filter, flat_map, fold, option_and_then}
 use Rattle.std.specs.List.{AllByRecursion, list_any}
 use Rattle.std.specs.Option.{option_map_or}
 use Rattle.std.proofs.lemmas.Bool.{cases_Bool, false≢true}
-use Rattle.o2_disk.specs.Image.{Image, sector}
+use Rattle.o2_disk.specs.Image.{Image, sector, block_at}
+use Rattle.o2_disk.proofs.Images.{length-written}
 use Rattle.o2_model.specs.declared.check.Check.TheVariants as check
 use Rattle.o2_model.specs.Volume.{Volume, block_size, opened}
 use Rattle.o2_model.specs.SystemFiles.{slots}
@@ -13,7 +14,7 @@ use Rattle.o2_model.specs.Consistent.{IsConsistent}
 use Rattle.o2_model.specs.Journals.{named_journal, journals, is_dirty}
 use Rattle.o2_model.specs.Logs.{LoggedBlock}
 use Rattle.o2_model.specs.Dirty.{is_journal, journal_if, slot_journal, is_dirty_slot, dirty_slots, committed_writes, all_committed_writes}
-use Rattle.o2_model.specs.Replay.{replay_slot, replay_all, replayed, may_put, puts_sector, IsTornReplay, IsPartialReplay}
+use Rattle.o2_model.specs.Replay.{replay_slot, replay_all, replayed, may_put, puts_sector, IsTornReplay, IsPartialReplay, IsReplayable, IsReplayStable, with_block, first_sector, as_clean, with_clean_journal}
 use Rattle.o2_model.proofs.Failing.{none_fails}
 use Rattle.o2_model.proofs.NothingFails.{no_check_fails}
 
@@ -88,3 +89,39 @@ pub no_variant : (I V : Image) (v : Volume) → opened I ≡ Some v → dirty_sl
 no_variant I V v is none part =
     let same : v ≡ part.volume = let e : Some v ≡ Some part.volume = sym is ∙ part.is_opened in cc in
     torn_same I V part.volume (subst (λ u. dirty_slots u ≡ []) same none) part.torn
+
+-- ---- the image itself
+-- An image is one that a torn replay of it leaves.
+pub partial_self : (I : Image) (v : Volume) → opened I ≡ Some v → IsPartialReplay I I
+partial_self I v is = record {
+  volume = v;
+  is_opened = is;
+  torn = record { size = refl; each = λ s low. inl refl; own = λ b dirty. refl };
+}
+
+pub stable_self : (I : Image) (h : IsReplayStable I) → IsReplayable h.volume I
+stable_self I h = h.each I (partial_self I h.volume h.is_opened)
+
+length-writes : (size : ℕ) (ws : List LoggedBlock) (I : Image) → length (fold (with_block size) I ws) ≡ length I
+length-writes size [] I = refl
+length-writes size (w ∷ ws) I = length-writes size ws (with_block size I w) ∙ length-written I (first_sector size w.block) w.bytes
+
+length-clean : (v : Volume) (I : Image) (o : Option ℕ) → length (option_map_or (with_clean_journal (block_size v) I) o I) ≡ length I
+length-clean v I None = refl
+length-clean v I (Some b) = length-written I (first_sector (block_size v) b) (as_clean (block_at (block_size v) I b))
+
+length-slots : (v : Volume) (ss : List ℕ) (I : Image) → length (fold (replay_slot v) I ss) ≡ length I
+length-slots v [] I = refl
+length-slots v (s ∷ ss) I =
+    length-slots v ss (replay_slot v I s)
+    ∙ (length-clean v (fold (with_block (block_size v)) I (committed_writes v s)) (slot_journal v s)
+    ∙ length-writes (block_size v) (committed_writes v s) I)
+
+length-opened : (I : Image) (o : Option Volume) → length (option_map_or (replay_all I) o I) ≡ length I
+length-opened I None = refl
+length-opened I (Some v) = length-slots v (dirty_slots v) I
+
+-- A replay keeps the number of sectors.
+pub length-replayed : (I : Image) → length (replayed I) ≡ length I
+unfolding replayed
+length-replayed I = length-opened I (opened I)

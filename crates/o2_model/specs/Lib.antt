@@ -38,3 +38,4 @@ pub mod Replay
 pub mod AfterReplay
 pub mod Owned
 pub mod Frames
+pub mod Intact

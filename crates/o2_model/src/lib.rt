@@ -35,7 +35,10 @@ pub use journal_part::JournalPart;
 pub use laws::{geometry_tells_block_bits, label_alone_changes};
 pub use log_laws::log_is_what_its_blocks_spell;
 pub use oddity::Oddity;
-pub use replay_laws::{clean_image_has_no_variant, consistent_image_stays, each_check_holds};
+pub use replay_laws::{
+    clean_image_has_no_variant, consistent_image_stays, each_check_holds, replay_keeps_length,
+    stable_image_can_be_replayed,
+};
 pub use system_file::{SlotFile, SystemFile};
 pub use walk_laws::{
     chains_end, no_directory_is_entered_twice, no_group_is_walked_twice, tree_walk_ends,
