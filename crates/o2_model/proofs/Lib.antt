@@ -15,3 +15,4 @@ pub mod SameInodes
 pub mod NothingFails
 pub mod Replays
 pub mod LogReadings
+pub mod SameContents

@@ -1,10 +1,11 @@
 -- Volumes with the same bytes in some blocks, or with the same tables.
-use Rattle.std.specs.Prelude.{◌≡◌, ◌⊎◌, ℕ, Bool, true, ◌&&◌, List, [], map}
+use Rattle.std.specs.Prelude.{◌≡◌, ◌⊎◌, ℕ, Bool, true, ◌&&◌, List, map, flat_map, filter}
 use Rattle.std.specs.List.{list_any}
 use Rattle.o2_model.specs.Words.{among}
 use Rattle.o2_model.specs.Volume.{Volume, over}
-use Rattle.o2_model.specs.Inodes.{is_directory}
-use Rattle.o2_model.specs.Directories.{directory_entries, own_inodes}
+use Rattle.o2_model.specs.Inodes.{leaf_records}
+use Rattle.o2_model.specs.LeafRecords.{blocks_under}
+use Rattle.o2_model.specs.Directories.{is_written, directory_entries, own_inodes}
 use Rattle.o2_model.specs.Allocators.{are_inodes}
 use Rattle.o2_model.specs.Groups.{GroupWalk, group_walk, groups, is_bit_set, is_on_set_bit, is_inode}
 use Rattle.o2_model.specs.Tree.{TreeWalk, followed}
@@ -36,3 +37,7 @@ pub record SameTables (v : Volume) (at : ℕ → List ℕ) : Type 0 where
   pub inodes : (b : ℕ) → has_bit v b ≡ true → at b ≡ v.at b
   pub own : own_inodes (over v at) ≡ own_inodes v
   pub entries : (d : ℕ) → IsIn v d → directory_entries (over v at) d ≡ directory_entries v d
+
+-- the blocks that the bytes of a file stand in, as far as they are outside its dinode and written
+abbrev pub content_blocks : Volume → ℕ → List ℕ
+content_blocks v b = flat_map (blocks_under v) (filter is_written (leaf_records v b))

@@ -28,7 +28,8 @@ pub use extent_laws::{
     few_blocks_are_looked_at, leaf_records_are_those_below, other_blocks_keep_extents,
 };
 pub use frame_laws::{
-    other_blocks_keep_entries, other_blocks_keep_groups, tables_tell_inodes_and_tree,
+    other_blocks_keep_contents, other_blocks_keep_entries, other_blocks_keep_groups,
+    superblock_tells_volume, tables_tell_inodes_and_tree,
 };
 pub use geo::Geo;
 pub use journal_part::JournalPart;
