@@ -16,3 +16,4 @@ pub mod NothingFails
 pub mod Replays
 pub mod LogReadings
 pub mod SameContents
+pub mod SameAllocators

@@ -38,10 +38,13 @@ no_slot = 0xffff
 unfoldable pub is_allocator : Volume → ℕ → Bool
 is_allocator v b = is_valid v b && has_bits (dinode v b).flags.0 chain_inode_flag
 
+-- the allocator whose dinode is in that block, if there is one
+abbrev pub allocator_if : Volume → BitUse → ℕ → ℕ → List Allocator
+allocator_if v bit_use slot b = if is_allocator v b then record { bit_use = bit_use; slot = slot; block = b } ∷ [] else []
+
 -- the allocator of that name, where there is one
 abbrev pub allocator_named : Volume → BitUse → ℕ → SystemFile → List Allocator
-allocator_named v bit_use slot file =
-    option_map_or (λ b. if is_allocator v b then record { bit_use = bit_use; slot = slot; block = b } ∷ [] else []) (system_inode v file) []
+allocator_named v bit_use slot file = option_map_or (allocator_if v bit_use slot) (system_inode v file) []
 
 abbrev pub slot_allocators : Volume → ℕ → List Allocator
 slot_allocators v slot =

@@ -1,11 +1,13 @@
 -- Volumes with the same bytes in some blocks, or with the same tables.
-use Rattle.std.specs.Prelude.{◌≡◌, ◌⊎◌, ℕ, Bool, true, ◌&&◌, List, map, flat_map, filter}
+use Rattle.std.specs.Prelude.{◌≡◌, ◌⊎◌, ℕ, Bool, true, ◌&&◌, List, map, flat_map, filter, Some}
 use Rattle.std.specs.List.{list_any}
 use Rattle.o2_model.specs.Words.{among}
 use Rattle.o2_model.specs.Volume.{Volume, over}
 use Rattle.o2_model.specs.Inodes.{leaf_records}
 use Rattle.o2_model.specs.LeafRecords.{blocks_under}
 use Rattle.o2_model.specs.Directories.{is_written, directory_entries, own_inodes}
+use Rattle.o2_model.specs.declared.system_file.SystemFile.{SystemFile}
+use Rattle.o2_model.specs.SystemFiles.{system_inode}
 use Rattle.o2_model.specs.Allocators.{are_inodes}
 use Rattle.o2_model.specs.Groups.{GroupWalk, group_walk, groups, is_bit_set, is_on_set_bit, is_inode}
 use Rattle.o2_model.specs.Tree.{TreeWalk, followed}
@@ -41,3 +43,8 @@ pub record SameTables (v : Volume) (at : ℕ → List ℕ) : Type 0 where
 -- the blocks that the bytes of a file stand in, as far as they are outside its dinode and written
 abbrev pub content_blocks : Volume → ℕ → List ℕ
 content_blocks v b = flat_map (blocks_under v) (filter is_written (leaf_records v b))
+
+-- What the allocators stand on is the same: the entries of the system directory, and the dinodes of the volume's own files.
+pub record SameSystemFiles (v : Volume) (at : ℕ → List ℕ) : Type 0 where
+  pub entries : directory_entries (over v at) v.geo.sysdir ≡ directory_entries v v.geo.sysdir
+  pub dinodes : (file : SystemFile) (b : ℕ) → system_inode v file ≡ Some b → at b ≡ v.at b

@@ -2,12 +2,14 @@
 ghost use Rattle.std.specs.Prelude.{◌≡◌, ◌^◌, ℕ, List, map, [], length};
 ghost use Rattle.o2_disk.specs.Image.{Image, block_at};
 ghost use Rattle.o2_model.specs.Volume.{Volume, over, volume_of};
-ghost use Rattle.o2_model.specs.Frames.{SameOn, SameTables, IsIn, group_blocks, content_blocks};
+ghost use Rattle.o2_model.specs.Frames.{SameOn, SameTables, IsIn, SameSystemFiles, group_blocks, content_blocks};
 ghost use Rattle.o2_model.specs.Inodes.{extents};
-ghost use Rattle.o2_model.specs.Directories.{dir_blocks, directory_entries};
+ghost use Rattle.o2_model.specs.Directories.{dir_blocks, directory_entries, own_inodes};
 ghost use Rattle.o2_model.specs.Contents.{bytes_of, content_of};
 ghost use Rattle.o2_model.specs.Files.{file_of};
 ghost use Rattle.o2_model.specs.Allocators.{allocators};
+ghost use Rattle.o2_model.specs.declared.system_file.SystemFile.{SystemFile};
+ghost use Rattle.o2_model.specs.SystemFiles.{system_inode};
 ghost use Rattle.o2_model.specs.Groups.{group_walk, is_inode, inodes_of};
 ghost use Rattle.o2_model.specs.Tree.{followed, tree_walk, tree_of};
 
@@ -15,6 +17,14 @@ ghost use Rattle.o2_model.specs.Tree.{followed, tree_walk, tree_of};
 pub fn other_blocks_keep_entries()
     ensures { (v : Volume) (at : ℕ → List ℕ) (d : ℕ) → at d ≡ v.at d → extents (over v at) d ≡ extents v d → SameOn (map (λ b. b.block) (dir_blocks v d)) v at
         → directory_entries (over v at) d ≡ directory_entries v d }
+{}
+
+/// A law: the allocators and the volume's own inodes depend on the entries of the system directory and on the dinodes that
+/// these name, and on no other block.
+pub fn other_blocks_keep_system_files()
+    ensures inode { (v : Volume) (at : ℕ → List ℕ) → SameSystemFiles v at → (file : SystemFile) → system_inode (over v at) file ≡ system_inode v file }
+    ensures allocators { (v : Volume) (at : ℕ → List ℕ) → SameSystemFiles v at → allocators (over v at) ≡ allocators v }
+    ensures own { (v : Volume) (at : ℕ → List ℕ) → SameSystemFiles v at → own_inodes (over v at) ≡ own_inodes v }
 {}
 
 /// A law: where every link is right, the groups depend on which allocators there are, on their dinodes and on the groups'

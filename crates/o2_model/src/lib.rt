@@ -29,7 +29,7 @@ pub use extent_laws::{
 };
 pub use frame_laws::{
     other_blocks_keep_contents, other_blocks_keep_entries, other_blocks_keep_groups,
-    superblock_tells_volume, tables_tell_inodes_and_tree,
+    other_blocks_keep_system_files, superblock_tells_volume, tables_tell_inodes_and_tree,
 };
 pub use geo::Geo;
 pub use journal_part::JournalPart;
