@@ -1,12 +1,12 @@
 -- No group is walked twice, so that the bound of a chain is never felt.
-use Rattle.std.proofs.Common.{◌≡◌, inl, inr, ℕ, zero, suc, ◌+◌, ◌<◌, ◌≤◌, true, false, ◌==◌, eqb, List, [], ◌∷◌, ◌++◌, map, length, refl, sym, subst, arith}
+use Rattle.std.proofs.Common.{◌≡◌, inl, inr, ℕ, zero, suc, ◌+◌, ◌<◌, ◌≤◌, true, false, ◌==◌, eqb, List, [], ◌∷◌, map, length, refl, sym, subst, arith}
 use Rattle.std.specs.List.{list_any}
 use Rattle.std.proofs.lemmas.Bool.{cases_Bool}
 use Rattle.std.proofs.lemmas.Bool.Decides.{nat_tests}
 use Rattle.std.proofs.lemmas.List.{map-append, length-map, length_push}
 use Rattle.o2_model.specs.declared.allocator.Allocator.{Allocator}
 use Rattle.o2_model.specs.declared.allocator.Group.{Group}
-use Rattle.o2_model.specs.Words.{among, Apart}
+use Rattle.o2_model.specs.Words.{Apart}
 use Rattle.o2_model.specs.Volume.{Volume, blocks}
 use Rattle.o2_model.specs.Allocators.{allocators, chain_heads}
 use Rattle.o2_model.specs.Groups.{GroupWalk, group_desc, is_good_group, with_group, walk_chain, walk_chains, walk_allocators, group_walk}

@@ -1,6 +1,6 @@
 -- Where nothing is dirty there is nothing to replay.
-use Rattle.std.proofs.Common.{◌≡◌, ◌⊎◌, inl, inr, ⊎_elim, ℕ, ◌<◌, Bool, true, false, not, List, [], ◌∷◌, ◌++◌, length, refl, sym, ◌∙◌, ap, subst, ext_get_or, Option, Some, None}
-use Rattle.std.specs.Prelude.{filter, flat_map, fold, option_and_then}
+use Rattle.std.proofs.Common.{◌≡◌, inl, inr, ⊎_elim, ℕ, ◌<◌, Bool, true, false, not, List, [], ◌∷◌, ◌++◌, length, refl, sym, ◌∙◌, ap, subst, ext_get_or, Option, Some, None}
+use Rattle.std.specs.Prelude.{filter, flat_map, fold}
 use Rattle.std.specs.List.{AllByRecursion, list_any}
 use Rattle.std.specs.Option.{option_map_or}
 use Rattle.std.proofs.lemmas.Bool.{cases_Bool, false≢true}
@@ -9,7 +9,7 @@ use Rattle.o2_disk.proofs.Images.{length-written}
 use Rattle.o2_model.specs.declared.check.Check.TheVariants as check
 use Rattle.o2_model.specs.Volume.{Volume, block_size, opened}
 use Rattle.o2_model.specs.SystemFiles.{slots}
-use Rattle.o2_model.specs.Failing.{faults, failing}
+use Rattle.o2_model.specs.Failing.{faults}
 use Rattle.o2_model.specs.Consistent.{IsConsistent}
 use Rattle.o2_model.specs.Journals.{named_journal, journals, is_dirty}
 use Rattle.o2_model.specs.Logs.{LoggedBlock}

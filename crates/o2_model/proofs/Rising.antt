@@ -85,3 +85,10 @@ pub rising_sorted : (ns ms : List ℕ) → IsPermutation ns ms → IsSorted nat_
 rising_sorted ns ms moved sorted =
     rising_is ns (dedup eqb ms) (sorted_from_strictly_increasing _ (IsStrictlyIncreasing-dedup ms sorted))
     (λ q. any_dedup (eq_by_cmp nat_cmp q) ms ∙ sym (list_any-IsPermutation (eq_by_cmp nat_cmp q) ns ms moved))
+
+-- one of two is one of them with the second said first
+pub or_in_turn : (a b : Bool) → (a || (b || false)) ≡ (b || (a || (b || false)))
+or_in_turn true true = refl
+or_in_turn true false = refl
+or_in_turn false true = refl
+or_in_turn false false = refl

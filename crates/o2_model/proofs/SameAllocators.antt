@@ -1,15 +1,14 @@
 -- Where the entries of the system directory and the dinodes that they name are the same, so are the allocators.
-use Rattle.std.proofs.Common.{◌≡◌, ℕ, List, [], ◌∷◌, ◌++◌, refl, sym, ◌∙◌, ap, Option, Some, None}
-use Rattle.std.specs.Prelude.{cond, map, filter, flat_map}
+use Rattle.std.proofs.Common.{◌≡◌, ℕ, List, [], ◌∷◌, refl, ◌∙◌, ap, Option, Some, None}
+use Rattle.std.specs.Prelude.{flat_map}
 use Rattle.std.specs.Option.{option_map_or}
-use Rattle.o2_model.specs.declared.allocator.Allocator.{Allocator}
 use Rattle.o2_model.specs.declared.allocator.BitUse.{BitUse}
 use Rattle.o2_model.specs.declared.allocator.BitUse.TheVariants.{Clusters, Inodes, Metadata}
 use Rattle.o2_model.specs.declared.system_file.SlotFile.TheVariants.{ExtentAlloc, InodeAlloc}
 use Rattle.o2_model.specs.declared.system_file.SystemFile.{SystemFile}
 use Rattle.o2_model.specs.declared.system_file.SystemFile.TheVariants.{GlobalInodeAlloc, GlobalBitmap, OfSlot}
 use Rattle.o2_model.specs.Volume.{Volume, over, is_valid}
-use Rattle.o2_model.specs.Directories.{directory_entries, own_inodes}
+use Rattle.o2_model.specs.Directories.{own_inodes}
 use Rattle.o2_model.specs.SystemFiles.{system_inode, slots}
 use Rattle.o2_model.specs.Allocators.{is_allocator, allocator_if, allocator_named, slot_allocators, allocators, no_slot}
 use Rattle.o2_model.specs.Frames.{SameSystemFiles}

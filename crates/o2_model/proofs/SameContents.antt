@@ -1,7 +1,7 @@
 -- Two volumes that agree on an inode, its extents and the blocks of its data have the same content.
-use Rattle.std.proofs.Common.{◌≡◌, inl, inr, ℕ, zero, suc, ◌+◌, ◌-◌, ◌*◌, ◌/◌, ◌%◌, ◌^◌, ◌<◌, ◌≤◌, Bool, true, false, ◌||◌, ◌&&◌, ◌==◌, eqb, List, [], ◌∷◌, ◌++◌, map, length, get_or, refl, sym, ◌∙◌, ap, arith, Option, Some, None}
+use Rattle.std.proofs.Common.{◌≡◌, inl, inr, ℕ, zero, suc, ◌+◌, ◌-◌, ◌*◌, ◌/◌, ◌%◌, ◌<◌, ◌≤◌, true, ◌==◌, List, [], ◌∷◌, map, refl, ◌∙◌, ap, arith, Option, Some, None}
 use Rattle.std.specs.Prelude.{filter, flat_map, find, slice_index}
-use Rattle.std.specs.List.{list_any, range_with_len}
+use Rattle.std.specs.List.{range_with_len}
 use Rattle.std.specs.Option.{option_map_or}
 use Rattle.std.proofs.lemmas.Bool.{cases_Bool, or_right, or_left, eq-eqb}
 use Rattle.std.proofs.lemmas.Bool.Decides.{nat_tests}
@@ -23,7 +23,7 @@ use Rattle.o2_model.specs.LeafRecords.{blocks_under}
 use Rattle.o2_model.specs.Directories.{is_written, dir_blocks, directory_entries}
 use Rattle.o2_model.specs.Files.{attributes_of, file_of}
 use Rattle.o2_model.proofs.SameEntries.{entries_same}
-use Rattle.o2_model.specs.Contents.{maps_cluster, mapped_block, file_block, byte_under, byte_in_block, byte_of, bytes_of, Bytes, Entries, content_of_kind, content_of}
+use Rattle.o2_model.specs.Contents.{maps_cluster, mapped_block, byte_under, byte_in_block, byte_of, bytes_of, Bytes, Entries, content_of_kind, content_of}
 
 -- a number of a range is among it
 in_range : (a n b : ℕ) → a ≤ b → b < a + n → among (range_with_len a n) b ≡ true

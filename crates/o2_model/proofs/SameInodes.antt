@@ -1,5 +1,5 @@
 -- Where groups, bits, inodes and entries are the same, so are the inodes, what directories follow, and the tree.
-use Rattle.std.proofs.Common.{◌≡◌, inl, inr, ℕ, Bool, true, false, not, ◌&&◌, ◌==◌, List, [], ◌∷◌, map, refl, sym, ◌∙◌, ap, Option, Some, None}
+use Rattle.std.proofs.Common.{◌≡◌, inl, inr, ℕ, true, false, not, ◌&&◌, List, [], ◌∷◌, map, refl, sym, ◌∙◌, ap, Option, Some, None}
 use Rattle.std.specs.Prelude.{filter, nat_lt}
 use Rattle.std.specs.List.{list_any, range_with_len}
 use Rattle.std.specs.Option.{option_map_or}
@@ -9,9 +9,9 @@ use Rattle.o2_model.specs.declared.allocator.Group.{Group}
 use Rattle.o2_model.specs.Words.{among}
 use Rattle.o2_model.specs.Volume.{Volume, over, blocks, is_valid}
 use Rattle.o2_model.specs.Inodes.{is_directory}
-use Rattle.o2_model.specs.Directories.{Entry, is_dot, directory_entries, named_entries}
+use Rattle.o2_model.specs.Directories.{Entry, is_dot, named_entries}
 use Rattle.o2_model.specs.Allocators.{are_inodes}
-use Rattle.o2_model.specs.Groups.{group_walk, groups, is_bit_set, bit_of_block, is_on_set_bit, is_inode, inodes_of}
+use Rattle.o2_model.specs.Groups.{groups, is_bit_set, bit_of_block, is_on_set_bit, is_inode, inodes_of}
 use Rattle.o2_model.specs.Tree.{names_users, followed, tree_walk}
 use Rattle.o2_model.specs.Frames.{IsIn, SameTables, has_bit}
 use Rattle.o2_model.proofs.SameTree.{tree_walk-same}

@@ -10,7 +10,7 @@ use Rattle.o2_model.specs.declared.system_file.SystemFile.{SystemFile}
 use Rattle.o2_model.specs.SystemFiles.{system_inode}
 use Rattle.o2_model.specs.Allocators.{are_inodes}
 use Rattle.o2_model.specs.Groups.{GroupWalk, group_walk, groups, is_bit_set, is_on_set_bit, is_inode}
-use Rattle.o2_model.specs.Tree.{TreeWalk, followed}
+use Rattle.o2_model.specs.Tree.{TreeWalk}
 
 -- these blocks have the same bytes
 pub record SameOn (blocks : List ℕ) (v : Volume) (at : ℕ → List ℕ) : Type 0 where

@@ -1,7 +1,7 @@
 -- What a log is made of. The reading of a log finds just this.
 use Rattle.std.specs.Prelude.{◌≡◌, ℕ, ◌+◌, ◌%◌, ◌^◌, Bool, true, List, [], ◌∷◌, ◌++◌, flat_map, fold, length}
 use Rattle.std.specs.List.{AllByRecursion}
-use Rattle.o2_model.specs.Logs.{Tag, Transaction, tags_of, revokes_of, with_write, with_revokes, no_writes, has_log_header, descriptor_type, revoke_type, commit_type, read_log}
+use Rattle.o2_model.specs.Logs.{Tag, Transaction, tags_of, revokes_of, with_write, with_revokes, no_writes, has_log_header, descriptor_type, revoke_type, commit_type}
 
 -- A part of a transaction.
 pub data LogPart : Type 0 where
