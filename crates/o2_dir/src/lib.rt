@@ -22,6 +22,8 @@ mod places;
 mod reading;
 mod route;
 mod sound_inode;
+#[cfg(test)]
+mod testing;
 
 pub use data_inode::has_bytes;
 pub use directory::entries;
@@ -29,5 +31,6 @@ pub use entry::{Entries, Entry};
 pub use fault::{DirFault, PathFault};
 pub use file_bytes::read_bytes;
 pub use names::{look_up, system_file};
+pub use path_step::{is_directory_at, is_valid_at};
 pub use path_text::{PathText, is_path};
 pub use route::path;

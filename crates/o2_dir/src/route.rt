@@ -106,3 +106,6 @@ pub fn path<D: Disk, const N: usize>(
     }
     follow(alloc, view, geo, geo.root, behind(text, 1))
 }
+
+#[cfg(test)]
+mod tests;
