@@ -1,6 +1,6 @@
 // Directories on a disk in memory, one in its dinode and one in a block.
 ghost use Rattle.std.specs.Prelude.{◌≤◌, ◌+◌, ◌<◌, length};
-ghost use Rattle.o2_disk.specs.Device.{SameDevice};
+ghost use Rattle.o2_disk.specs.Device.{SameDevice, IsWritable};
 
 use super::path;
 use crate::directory::entries;
@@ -73,7 +73,8 @@ fn put_directory_block(block: &mut [u8])
 
 // The directories on a disk of 160 blocks.
 fn put_all<D: Disk>(disk: &mut D) -> Result<(), Fail>
-    requires { 320 ≤ (D.state disk.old).sectors }
+    requires disk { 320 ≤ (D.state disk.old).sectors }
+    requires writable { IsWritable (D.state disk.old).attached }
     ensures device { SameDevice (D.state disk.old) (D.state disk.new) }
 {
     let mut block = [0; 1024];
