@@ -17,3 +17,4 @@ pub mod Replays
 pub mod LogReadings
 pub mod SameContents
 pub mod SameAllocators
+pub mod BitPlaces

@@ -9,11 +9,13 @@ use Rattle.o2_model.specs.declared.allocator.Group.{Group}
 use Rattle.o2_model.specs.Words.{among}
 use Rattle.o2_model.specs.Volume.{Volume, over, blocks, is_valid}
 use Rattle.o2_model.specs.Inodes.{is_directory}
-use Rattle.o2_model.specs.Directories.{Entry, is_dot, named_entries}
-use Rattle.o2_model.specs.Allocators.{are_inodes}
-use Rattle.o2_model.specs.Groups.{groups, is_bit_set, bit_of_block, is_on_set_bit, is_inode, inodes_of}
+use Rattle.o2_model.specs.Directories.{directory_entries, Entry, is_dot, named_entries}
+use Rattle.o2_model.specs.Allocators.{are_inodes, allocators}
+use Rattle.o2_model.specs.Groups.{group_walk, is_bit_set_in, groups, is_bit_set, bit_of_block, is_on_set_bit, is_inode, inodes_of}
 use Rattle.o2_model.specs.Tree.{names_users, followed, tree_walk}
-use Rattle.o2_model.specs.Frames.{IsIn, SameTables, has_bit}
+use Rattle.o2_model.specs.Frames.{IsIn, SameOn, SameTables, SameSystemFiles, group_blocks, has_bit}
+use Rattle.o2_model.proofs.SameGroups.{groups_keep}
+use Rattle.o2_model.proofs.SameAllocators.{allocators_same, own_same}
 use Rattle.o2_model.proofs.SameTree.{tree_walk-same}
 
 bit_same_at : (v : Volume) (at : ℕ → List ℕ) (block : ℕ) → ((k : ℕ) → is_bit_set (over v at) block k ≡ is_bit_set v block k) → (o : Option ℕ)
@@ -71,3 +73,18 @@ directory_same v at b same = rw same refl
 -- The tree is the same.
 pub tree-same : (v : Volume) (at : ℕ → List ℕ) → SameTables v at → tree_walk (over v at) ≡ tree_walk v
 tree-same v at same = tree_walk-same v at (record { kind = λ b inode. directory_same v at b (inode_at_same v at same b inode); entries = followed-same v at same })
+
+-- ---- from blocks to tables
+bits_of_bytes : (v : Volume) (at : ℕ → List ℕ) (b k : ℕ) → at b ≡ v.at b → is_bit_set (over v at) b k ≡ is_bit_set v b k
+bits_of_bytes v at b k same = ap (λ bytes. is_bit_set_in 0x40 bytes k) same
+
+-- The tables are the same where these blocks are: the dinodes of the volume's own files, the groups, and the inodes.
+pub tables_of_blocks : (v : Volume) (at : ℕ → List ℕ) → SameSystemFiles v at → SameOn (map (λ a. a.block) (allocators v)) v at → SameOn (group_blocks (group_walk v)) v at → (group_walk v).faults ≡ []
+    → ((b : ℕ) → has_bit v b ≡ true → at b ≡ v.at b) → ((d : ℕ) → IsIn v d → directory_entries (over v at) d ≡ directory_entries v d) → SameTables v at
+tables_of_blocks v at files dinodes descriptors none inodes entries = record {
+  groups = groups_keep v at (allocators_same v at files) dinodes descriptors none;
+  bits = λ b inside k. bits_of_bytes v at b k (descriptors.same b inside);
+  inodes = inodes;
+  own = own_same v at files;
+  entries = entries;
+}

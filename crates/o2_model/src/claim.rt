@@ -25,5 +25,5 @@ pub enum Owner {
 #[derive(Clone, Copy, Debug, PartialEq, Eq)]
 pub struct Claim {
     pub owner: Owner,
-    pub cluster: u64,
+    pub cluster: u32,
 }

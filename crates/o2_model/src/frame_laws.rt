@@ -1,8 +1,8 @@
 // Laws of what depends on which blocks, each the contract of a function that does nothing.
-ghost use Rattle.std.specs.Prelude.{◌≡◌, ◌^◌, ℕ, List, map, [], length};
+ghost use Rattle.std.specs.Prelude.{◌≡◌, ◌^◌, ℕ, List, map, [], length, true};
 ghost use Rattle.o2_disk.specs.Image.{Image, block_at};
 ghost use Rattle.o2_model.specs.Volume.{Volume, over, volume_of};
-ghost use Rattle.o2_model.specs.Frames.{SameOn, SameTables, IsIn, SameSystemFiles, group_blocks, content_blocks};
+ghost use Rattle.o2_model.specs.Frames.{SameOn, SameTables, IsIn, SameSystemFiles, group_blocks, content_blocks, has_bit};
 ghost use Rattle.o2_model.specs.Inodes.{extents};
 ghost use Rattle.o2_model.specs.Directories.{dir_blocks, directory_entries, own_inodes};
 ghost use Rattle.o2_model.specs.Contents.{bytes_of, content_of};
@@ -40,6 +40,12 @@ pub fn tables_tell_inodes_and_tree()
     ensures inodes { (v : Volume) (at : ℕ → List ℕ) → SameTables v at → inodes_of (over v at) ≡ inodes_of v }
     ensures followed { (v : Volume) (at : ℕ → List ℕ) → SameTables v at → (d : ℕ) → IsIn v d → followed (over v at) d ≡ followed v d }
     ensures tree { (v : Volume) (at : ℕ → List ℕ) → SameTables v at → tree_walk (over v at) ≡ tree_walk v }
+{}
+
+/// A law: the tables are the same where these blocks are: the dinodes of the volume's own files, the groups, and the inodes.
+pub fn blocks_tell_tables()
+    ensures { (v : Volume) (at : ℕ → List ℕ) → SameSystemFiles v at → SameOn (map (λ a. a.block) (allocators v)) v at → SameOn (group_blocks (group_walk v)) v at → (group_walk v).faults ≡ []
+        → ((b : ℕ) → has_bit v b ≡ true → at b ≡ v.at b) → ((d : ℕ) → IsIn v d → directory_entries (over v at) d ≡ directory_entries v d) → SameTables v at }
 {}
 
 /// A law: what an inode holds depends on its dinode, its extents and the blocks of its data, and on no other block, and so

@@ -13,6 +13,7 @@ mod journal_part;
 mod laws;
 mod log_laws;
 mod oddity;
+mod order_laws;
 mod replay_laws;
 mod system_file;
 mod walk_laws;
@@ -28,14 +29,16 @@ pub use extent_laws::{
     few_blocks_are_looked_at, leaf_records_are_those_below, other_blocks_keep_extents,
 };
 pub use frame_laws::{
-    other_blocks_keep_contents, other_blocks_keep_entries, other_blocks_keep_groups,
-    other_blocks_keep_system_files, superblock_tells_volume, tables_tell_inodes_and_tree,
+    blocks_tell_tables, other_blocks_keep_contents, other_blocks_keep_entries,
+    other_blocks_keep_groups, other_blocks_keep_system_files, superblock_tells_volume,
+    tables_tell_inodes_and_tree,
 };
 pub use geo::Geo;
 pub use journal_part::JournalPart;
 pub use laws::{geometry_tells_block_bits, label_alone_changes};
 pub use log_laws::log_is_what_its_blocks_spell;
 pub use oddity::Oddity;
+pub use order_laws::{bits_and_blocks_agree, rising_numbers_are_the_list_in_order};
 pub use replay_laws::{
     clean_image_has_no_variant, consistent_image_stays, each_check_holds, replay_keeps_length,
     stable_image_can_be_replayed,
