@@ -1,4 +1,4 @@
-//! The entries of a directory.
+//! The entries of directories, and the bytes of files and links.
 #![tactic(auto)]
 
 mod blocks;
