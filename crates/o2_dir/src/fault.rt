@@ -92,6 +92,17 @@ pub enum PathFault {
     WrongKind,
 }
 
+impl From<NoMemory> for PathFault {
+    ghost use Rattle.std.specs.Prelude.{◌≡◌};
+    ghost use Rattle.o2_dir.specs.declared.fault.PathFault.TheVariants.{NoMemory};
+
+    ghost from_gives = { λ _ fault. fault ≡ NoMemory };
+
+    fn from(_: NoMemory) -> Self {
+        PathFault::NoMemory
+    }
+}
+
 impl From<ViewFault> for PathFault {
     ghost use Rattle.o2_dir.specs.Faults.{IsPathOfView};
 

@@ -1,4 +1,4 @@
-//! The entries of directories, and the bytes of files and links.
+//! Directories: their entries, names and paths. And the bytes of files, whose size is judged by the system directory's entries.
 #![tactic(auto)]
 
 mod blocks;
@@ -20,7 +20,10 @@ mod path_step;
 mod path_text;
 mod places;
 mod reading;
+mod route;
 mod sound_inode;
+#[cfg(test)]
+mod testing;
 
 pub use data_inode::has_bytes;
 pub use directory::entries;
@@ -28,4 +31,6 @@ pub use entry::{Entries, Entry};
 pub use fault::{DirFault, PathFault};
 pub use file_bytes::read_bytes;
 pub use names::{look_up, system_file};
+pub use path_step::{is_directory_at, is_valid_at};
 pub use path_text::{PathText, is_path};
+pub use route::path;

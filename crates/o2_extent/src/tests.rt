@@ -1,8 +1,9 @@
 // Each call once, on a disk in memory.
-ghost use Rattle.std.specs.Prelude.{◌≡◌, ◌+◌, ◌-◌, ◌*◌, ◌^◌, ◌≤◌, length};
+ghost use Rattle.std.specs.Prelude.{◌≡◌, ◌+◌, ◌-◌, ◌*◌, ◌^◌, ◌≤◌, length, IfOk};
 ghost use Rattle.o2_extent.specs.Seen.{HasSizes};
+ghost use Rattle.o2_extent.specs.Maps.{AreNumbered};
 
-use crate::{Leaf, Leaves, list_of_runs, records};
+use crate::{Leaf, Leaves, list_of_runs, map_cluster, records};
 use o2_disk::{Disk, How, MemDisk};
 use o2_ondisk::{
     Dinode, DxSeed, ExtentBlock, ExtentListHeader, ExtentRec, ExtentSize, Signature, read_dinode,
@@ -183,5 +184,33 @@ fn lists_runs(rt: HostRuntime) -> Result<(), Fail> {
     assert_eq!(rt; found.len(), 2);
     assert_eq!(rt; found[0], leaf(0, 2, 12, 0));
     assert_eq!(rt; found[1], leaf(2, 1, 36, 0));
+    Ok(())
+}
+
+// Clusters 2 to 4 and 7 of an inode.
+fn two_leaves(alloc: Global) -> Result<Leaves, Fail>
+    ensures { IfOk result (λ leaves. AreNumbered 4 leaves) }
+{
+    let first = Leaf {
+        cpos: 2,
+        clusters: 3,
+        block: 40,
+        flags: 0,
+    };
+    let second = Leaf {
+        cpos: 7,
+        clusters: 1,
+        block: 80,
+        flags: 1,
+    };
+    Ok(Leaves::from(Vec::from_array(alloc, [first, second])?))
+}
+
+#[test]
+fn maps_clusters(rt: HostRuntime) -> Result<(), Fail> {
+    let leaves = two_leaves(rt.alloc())?;
+    assert_eq!(rt; map_cluster(&leaves, 4, 4), Some(48));
+    assert_eq!(rt; map_cluster(&leaves, 4, 7), Some(80));
+    assert_eq!(rt; map_cluster(&leaves, 4, 5), None);
     Ok(())
 }
