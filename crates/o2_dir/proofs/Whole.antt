@@ -1,116 +1,28 @@
 -- A directory as a whole: where its blocks are, and which checks it fails.
-use Rattle.std.proofs.Common.{◌≡◌, inl, inr, ℕ, zero, suc, ◌+◌, ◌*◌, ◌/◌, ◌%◌, ◌≤◌, Bool, true, false, cond, ◌&&◌, ◌==◌, nat_lt, List, [], ◌∷◌, ◌++◌, All, map, filter, flat_map, get_or, length, refl, sym, ◌∙◌, ap, subst, arith, Option, Some, None}
+use Rattle.std.proofs.Common.{◌≡◌, inl, inr, ℕ, ◌+◌, ◌*◌, ◌/◌, ◌%◌, ◌≤◌, Bool, true, false, ◌&&◌, ◌==◌, nat_lt, List, [], ◌∷◌, ◌++◌, map, filter, flat_map, length, refl, sym, ◌∙◌, ap, subst, arith, Option, Some, None}
 use Rattle.std.specs.List.{range_with_len}
-use Rattle.std.proofs.Math.Nat.{mul-le-mul_right}
-use Rattle.std.proofs.lemmas.Nat.{div-add-mod'}
 use Rattle.std.proofs.lemmas.Bool.{cases_Bool, or_left, eq-eqb}
 use Rattle.std.proofs.lemmas.List.{length-map, map-append}
-use Rattle.std.proofs.lemmas.Bool.Decides.{nat_tests}
-use Rattle.std.proofs.lemmas.List.Elements.{All-push, All-map}
+use Rattle.std.proofs.lemmas.List.Elements.{All-push}
 use Rattle.o2_ondisk.specs.declared.extent_rec.ExtentRec.{ExtentRec}
 use Rattle.o2_ondisk.specs.declared.kind.Kind.{Kind}
 use Rattle.o2_ondisk.specs.declared.kind.Kind.TheVariants.{File, Directory, Character, Block, Fifo, Socket, Link}
-use Rattle.o2_model.specs.Volume.{Volume, block_size, per_cluster, blocks, dinode}
+use Rattle.o2_model.specs.Volume.{Volume, block_size, per_cluster, dinode}
 use Rattle.o2_model.specs.Words.{IsLeast, fails_at}
 use Rattle.o2_model.specs.Checks.Extent.{extent_faults}
 use Rattle.o2_model.specs.Checks.DirBlock.{is_sound_dir_block, dir_block_faults}
-use Rattle.o2_model.specs.Clusters.{are_clusters_in_range}
-use Rattle.o2_model.specs.Extents.{leaf_clusters, with_leaf, with_seen, end_of, with_met, list_in_block, most_in_block, is_extent_block, is_sound_header, is_sound_leaf, names_new_block, nothing_read, read_records, read_list, with_fault, records_in_block, Extents, extent_list}
-use Rattle.o2_model.specs.Inodes.{extents, has_list, is_directory, is_directory_kind, kind, leaf_records, most_flags, most_in_dinode}
+use Rattle.o2_model.specs.Extents.{leaf_clusters}
+use Rattle.o2_model.specs.Inodes.{is_directory, is_directory_kind, kind, leaf_records}
 use Rattle.o2_model.specs.Directories.{DirBlock, dir_block, dir_blocks, mapped, is_written, entries_of_block, directory_entries}
 use Rattle.o2_model.specs.Checks.InodeSize.{has_sound_size, is_directory_size, is_size_of_kind, inode_size_faults}
 use Rattle.o2_extent.specs.Readings.{leaf_of}
 use Rattle.o2_extent.specs.declared.leaf.Leaf.{Leaf}
 use Rattle.o2_dir.specs.declared.places.Place.{Place}
-use Rattle.o2_dir.specs.Blocks.{place_in, places_in, places_of, block_at_place, EndsIn, Keeps}
+use Rattle.o2_dir.specs.Blocks.{place_in, places_in, places_of, block_at_place, Keeps}
 use Rattle.o2_dir.specs.Fails.{IsMapped, FailsFirst}
 use Rattle.o2_dir.specs.declared.reading.Reading.{Reading}
 use Rattle.o2_model.specs.declared.check.Check.{Check}
 use Rattle.o2_model.specs.declared.check.Check.TheVariants.{InodeSize, DirBlock as DirBlockFails}
-
--- ---- the records lie within the volume
-record InRange (v : Volume) (rs : List ExtentRec) : Type 0 where
-  each : All (λ (r : ExtentRec). are_clusters_in_range v r.blkno (leaf_clusters r) ≡ true) rs
-
-met_leaves : (v : Volume) (b : ℕ) (t : Extents) → (with_met v b t).leaves ≡ t.leaves
-unfolding with_met
-met_leaves v b t = elim (cases_Bool (is_sound_header (most_in_block v) (list_in_block v b).header)) [
-  | inl sound ↦ rw sound refl
-  | inr bad ↦ rw bad refl
-]
-
-leaf_in_range : (v : Volume) (m low : ℕ) (r : ExtentRec) → is_sound_leaf v m low r ≡ true → are_clusters_in_range v r.blkno (leaf_clusters r) ≡ true
-unfolding is_sound_leaf
-leaf_in_range v m low r h = grind (arith, nat_tests)
-
-all_in_range : (v : Volume) (m depth holder low : ℕ) (rs : List ExtentRec) (t : Extents) → InRange v t.leaves
-    → InRange v (read_records v m depth holder low rs t).leaves
-all_in_range v m depth holder low [] t h = h
-all_in_range v m zero holder low (r ∷ rs) t h =
-    elim (cases_Bool (leaf_clusters r == 0)) [
-      | inl empty ↦ rw empty (all_in_range v m zero holder low rs t h)
-      | inr some ↦ elim (cases_Bool (is_sound_leaf v m (end_of t.leaves) r)) [
-        | inl sound ↦ rw (some, sound) (all_in_range v m zero holder low rs (with_leaf t r) (record { each = All-push (λ (x : ExtentRec). are_clusters_in_range v x.blkno (leaf_clusters x) ≡ true) t.leaves r h.each (leaf_in_range v m (end_of t.leaves) r sound) }))
-        | inr bad ↦ rw (some, bad) h
-      ]
-    ]
-all_in_range v m (suc depth) holder low (r ∷ rs) t h =
-    elim (cases_Bool (names_new_block v low t.seen r)) [
-      | inr old ↦ rw old h
-      | inl new ↦ elim (cases_Bool (is_extent_block v depth r.blkno)) [
-        | inr bad ↦ rw (new, bad) h
-        | inl good ↦
-            let b = r.blkno in
-            let met = with_met v b (with_seen t b) in
-            let first : InRange v met.leaves = rw (met_leaves v b (with_seen t b)) h in
-            rw (new, good) (all_in_range v m (suc depth) holder (r.cpos + 1) rs _ (all_in_range v m depth b 0 (records_in_block v b) met first))
-      ]
-    ]
-
-no_records : (v : Volume) → InRange v []
-no_records v = record { each = λ k d lt. absurd (omega arith) }
-
-extents_are : (v : Volume) (d : ℕ) → extents v d ≡ cond (has_list v d) (read_list v (most_flags v d) d 0xc0 (most_in_dinode v)) nothing_read
-unfolding extents
-extents_are v d = refl
-
-list_in_range : (v : Volume) (m holder at most : ℕ) → InRange v (read_list v m holder at most).leaves
-list_in_range v m holder at most =
-    let list = extent_list at (v.at holder) in
-    let read = read_records v m list.header.tree_depth holder 0 list.records nothing_read in
-    elim (cases_Bool (is_sound_header most list.header)) [
-      | inr bad ↦ subst (λ (b : Bool). InRange v (cond b read (with_fault nothing_read holder)).leaves) (sym bad) (no_records v)
-      | inl sound ↦ subst (λ (b : Bool). InRange v (cond b read (with_fault nothing_read holder)).leaves) (sym sound) (all_in_range v m list.header.tree_depth holder 0 list.records nothing_read (no_records v))
-    ]
-
-records_in_range : (v : Volume) (d : ℕ) → InRange v (leaf_records v d)
-records_in_range v d =
-    let read = read_list v (most_flags v d) d 0xc0 (most_in_dinode v) in
-    let either : InRange v (cond (has_list v d) read nothing_read).leaves = elim (cases_Bool (has_list v d)) [
-      | inr none ↦ subst (λ (b : Bool). InRange v (cond b read nothing_read).leaves) (sym none) (no_records v)
-      | inl has ↦ subst (λ (b : Bool). InRange v (cond b read nothing_read).leaves) (sym has) (list_in_range v (most_flags v d) d 0xc0 (most_in_dinode v))
-    ] in
-    subst (λ (t : Extents). InRange v t.leaves) (sym (extents_are v d)) either
-
-record InVolume (v : Volume) (b count : ℕ) : Type 0 where
-  whole : b % per_cluster v ≡ 0
-  fits : b / per_cluster v + count ≤ v.geo.clusters
-
-in_volume : (v : Volume) (b count : ℕ) → are_clusters_in_range v b count ≡ true → InVolume v b count
-unfolding are_clusters_in_range
-in_volume v b count h = record { whole = grind (arith, nat_tests); fits = grind (arith, nat_tests) }
-
-ends_in : (v : Volume) (r : ExtentRec) → are_clusters_in_range v r.blkno (leaf_clusters r) ≡ true → EndsIn (per_cluster v) (blocks v) (leaf_of r)
-ends_in v r h =
-    let is = in_volume v r.blkno (leaf_clusters r) h in
-    let pc = per_cluster v in
-    omega (arith, is.whole, div-add-mod' r.blkno pc, mul-le-mul_right pc is.fits)
-
-each_end_in : (v : Volume) (rs : List ExtentRec) → InRange v rs → All (λ (leaf : Leaf). EndsIn (per_cluster v) (blocks v) leaf) (map leaf_of rs)
-each_end_in v rs h = All-map (λ (leaf : Leaf). EndsIn (per_cluster v) (blocks v) leaf) leaf_of rs (λ k e lt. ends_in v (get_or rs k e) (h.each k e lt))
-
-pub all_end_in : (v : Volume) (d size : ℕ) (leaves : List Leaf) → IsMapped v d size leaves → All (λ (leaf : Leaf). EndsIn (per_cluster v) (blocks v) leaf) leaves
-all_end_in v d size leaves h = subst (λ (ls : List Leaf). All (λ (leaf : Leaf). EndsIn (per_cluster v) (blocks v) leaf) ls) (sym h.are) (each_end_in v (leaf_records v d) (records_in_range v d))
 
 -- ---- the blocks that they map
 mapped_one : (v : Volume) (r : ExtentRec) (ks : List ℕ) → map (dir_block v (r.cpos * per_cluster v) r.blkno) ks ≡ map (block_at_place v) (map (place_in (per_cluster v) (leaf_of r)) ks)
@@ -174,11 +86,6 @@ pub blocks_told : (v : Volume) (d size : ℕ) (leaves : List Leaf) → IsMapped 
 blocks_told v d size leaves h bytes pc places bytes_are pc_is are =
     blocks_are v d size leaves h
     ∙ sym (ap (map (block_at_place v)) (are ∙ (ap (λ n. places_of n (size / bytes) leaves) pc_is ∙ ap (λ n. places_of (per_cluster v) (size / n) leaves) bytes_are)))
-
-pub ends_told : (v : Volume) (d size : ℕ) (leaves : List Leaf) → IsMapped v d size leaves → (pc bs : ℕ) → pc ≡ per_cluster v → bs ≡ blocks v → All (λ (leaf : Leaf). EndsIn pc bs leaf) leaves
-ends_told v d size leaves h pc bs pc_is bs_are =
-    subst (λ (n : ℕ). All (λ (leaf : Leaf). EndsIn n bs leaf) leaves) (sym pc_is)
-    (subst (λ (n : ℕ). All (λ (leaf : Leaf). EndsIn (per_cluster v) n leaf) leaves) (sym bs_are) (all_end_in v d size leaves h))
 
 pub entries_kept : (v : Volume) (d : ℕ) (bs : List DirBlock) → dir_blocks v d ≡ bs → flat_map entries_of_block bs ≡ directory_entries v d
 unfolding directory_entries

@@ -7,11 +7,12 @@ ghost use Rattle.o2_view.specs.Views.{view_state};
 ghost use Rattle.o2_model.specs.Directories.{directory_entries};
 ghost use Rattle.o2_extent.specs.Seen.{LiesIn, volume_seen};
 ghost use Rattle.o2_extent.specs.Reads.{OnlyReads};
+ghost use Rattle.o2_extent.specs.Readings.{Within};
 ghost use Rattle.o2_dir.specs.Fails.{FailsNone, FailsFirst, IsMapped};
 ghost use Rattle.o2_dir.specs.Told.{told};
 
 use crate::blocks::read_places;
-use crate::places::{Place, places_of_leaves};
+use crate::places::{Place, places_within};
 use crate::reading::settle;
 use crate::{DirFault, Entries};
 use o2_disk::Disk;
@@ -39,6 +40,7 @@ pub fn mapped<D: Disk, const N: usize>(
     leaves: &[Leaf],
 ) -> Result<Entries, DirFault>
     requires geo { LiesIn geo.now view.old }
+    requires within { Within geo.now leaves.now }
     requires is { (I : Image) → (view_state view.old).content ≡ Some I → IsMapped (volume_seen geo.now I) inode size leaves.now }
     ensures entries { IfOk result (λ entries. (I : Image) → (view_state view.old).content ≡ Some I → map told entries ≡ directory_entries (volume_seen geo.now I) inode) }
     ensures sound { IfOk result (λ _. (I : Image) → (view_state view.old).content ≡ Some I → FailsNone (volume_seen geo.now I) inode) }
@@ -51,12 +53,7 @@ pub fn mapped<D: Disk, const N: usize>(
     let bytes = block_bytes(geo);
     let per_cluster = blocks_per_cluster(geo);
     let blocks = volume_blocks(geo);
-    let Some(places) = places_of_leaves(alloc, per_cluster, size / bytes, blocks, leaves)? else {
-        return Err(DirFault::Bad {
-            check: Check::Extent,
-            block: inode,
-        });
-    };
+    let places = places_within(alloc, per_cluster, size / bytes, blocks, leaves)?;
     if !has_size(size, bytes, places.as_slice()) {
         return Err(DirFault::Bad {
             check: Check::InodeSize,

@@ -35,17 +35,6 @@ fn is_written(leaf: &Leaf) -> bool
     !ExtentFlags(leaf.flags).has(ExtentFlags::UNWRITTEN)
 }
 
-/// Whether the clusters of the record lie within so many blocks.
-fn ends_in(leaf: &Leaf, per_cluster: u64, blocks: u64) -> bool
-    requires { per_cluster ≤ 2048 }
-    ensures yes { result ≡ true → EndsIn per_cluster blocks leaf.now }
-    ensures no { result ≡ false → EndsIn per_cluster blocks leaf.now → ⊥ }
-{
-    let count = u64::from(leaf.clusters) * per_cluster;
-    let first = leaf.block;
-    first <= blocks && count <= blocks - first
-}
-
 /// Puts the k-th block of the record's clusters at the end, where its place, by that of the first, is below `limit`.
 fn add_place(
     first: u64,
@@ -124,38 +113,4 @@ pub fn places_within(
         add_written(per_cluster, limit, leaf, blocks, &mut places)?;
     }
     Ok(places)
-}
-
-/// Whether the clusters of each of the records lie within so many blocks.
-fn all_end_in(leaves: &[Leaf], per_cluster: u64, blocks: u64) -> bool
-    requires { per_cluster ≤ 2048 }
-    ensures yes { result ≡ true → All (λ leaf. EndsIn per_cluster blocks leaf) leaves.now }
-    ensures no { result ≡ false → All (λ leaf. EndsIn per_cluster blocks leaf) leaves.now → ⊥ }
-{
-    for leaf in leaves {
-        if !ends_in(leaf, per_cluster, blocks) {
-            return false;
-        }
-    }
-    true
-}
-
-/// The blocks of a directory that the records map, those at places below `limit`. None where a record does not lie within
-/// so many blocks.
-pub fn places_of_leaves(
-    alloc: Global,
-    per_cluster: u64,
-    limit: u64,
-    blocks: u64,
-    leaves: &[Leaf],
-) -> Result<Option<Vec<Place>>, NoMemory>
-    requires few { per_cluster ≤ 2048 }
-    ensures none { IfOk result (λ found. IfNone found (All (λ leaf. EndsIn per_cluster blocks leaf) leaves.now → ⊥)) }
-    ensures places { IfOk result (λ found. IfSome found (λ places. places.items ≡ places_of per_cluster limit leaves.now)) }
-    ensures inside { IfOk result (λ found. IfSome found (λ places. All (λ p. p.block < blocks) places.items)) }
-{
-    if !all_end_in(leaves, per_cluster, blocks) {
-        return Ok(None);
-    }
-    Ok(Some(places_within(alloc, per_cluster, limit, blocks, leaves)?))
 }
