@@ -13,6 +13,7 @@ pub fn numbers() -> Geo
     ensures sizes { HasSizes result }
     ensures bits { result.block_bits ≡ 10 }
     ensures blocks { result.clusters * 2 ^ (result.cluster_bits - result.block_bits) ≡ 160 }
+    ensures root { result.root ≡ 5 }
     ensures sysdir { result.sysdir ≡ 6 }
 {
     Geo {
