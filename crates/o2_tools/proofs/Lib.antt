@@ -1,3 +1,4 @@
 pub mod Lines
+pub mod QueryWordLemmas
 pub mod Refusals
 pub mod Relabels

@@ -1,3 +1,5 @@
 pub mod Answer
+pub mod AskedWords
 pub mod CommandLine
+pub mod QueryWords
 pub mod Status

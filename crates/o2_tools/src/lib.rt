@@ -4,6 +4,7 @@
 mod cause;
 mod label;
 mod program;
+mod query_word;
 mod superblock;
 #[cfg(test)]
 mod tests;

@@ -1,0 +1,51 @@
+// Why a query was not answered.
+use o2_disk::Failed;
+use o2_model::Check;
+use std::alloc::AllocError;
+use thiserror::Error;
+
+/// Why a query was not answered, or not to its end.
+#[derive(Clone, Copy, Debug, PartialEq, Eq, Error)]
+pub enum DebugFault {
+    /// There is no memory for what was asked.
+    #[error("NoMemory")]
+    NoMemory,
+    /// A call of the device failed.
+    #[error("DeviceFault")]
+    DeviceFault,
+    /// A call of the sink failed.
+    #[error("OutputFault")]
+    OutputFault,
+    /// A name of the path has no live entry.
+    #[error("Absent")]
+    Absent,
+    /// A name in the middle of the path is no directory, or what stands at its end is of another kind than is asked for.
+    #[error("WrongKind")]
+    WrongKind,
+    /// What the path leads through, or what stands at its end, fails this check at this block, the first that it fails.
+    #[error("Bad")]
+    Bad { check: Check, block: u64 },
+}
+
+impl From<AllocError> for DebugFault {
+    ghost use Rattle.std.specs.Prelude.{◌≡◌};
+    ghost use Rattle.o2_debug.specs.declared.fault.DebugFault.TheVariants.{NoMemory};
+
+    ghost from_gives = { λ _ fault. fault ≡ NoMemory };
+
+    fn from(_: AllocError) -> Self {
+        DebugFault::NoMemory
+    }
+}
+
+/// A sink's call that failed.
+impl From<Failed> for DebugFault {
+    ghost use Rattle.std.specs.Prelude.{◌≡◌};
+    ghost use Rattle.o2_debug.specs.declared.fault.DebugFault.TheVariants.{OutputFault};
+
+    ghost from_gives = { λ _ fault. fault ≡ OutputFault };
+
+    fn from(_: Failed) -> Self {
+        DebugFault::OutputFault
+    }
+}
