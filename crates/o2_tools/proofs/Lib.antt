@@ -1,3 +1,5 @@
+pub mod AskedLines
+pub mod DebugLines
 pub mod Lines
 pub mod QueryWordLemmas
 pub mod Refusals

@@ -4,6 +4,9 @@ use Rattle.std.proofs.lemmas.List.{append_cancel_left}
 use Rattle.o2_dir.specs.PathTexts.{IsPath}
 use Rattle.o2_debug.specs.declared.query.Query.{Query}
 use Rattle.o2_debug.specs.declared.query.Query.TheVariants.{Ls, Stat, Cat}
+use Rattle.o2_tools.specs.declared.query_word.Asked.{Asked}
+use Rattle.o2_tools.specs.declared.query_word.Asked.TheVariants as asked
+use Rattle.o2_tools.specs.AskedWords.{IsAsked}
 use Rattle.o2_tools.specs.QueryWords.{IsNumber, NamesPath, NamesNumber, Asks, IsForLater, IsQueryWord}
 
 -- what is behind the name is no path
@@ -24,3 +27,10 @@ asks_nothing word ls stat cat later (inr is) = later is
 -- a number, just where it is behind the name
 pub number_is_behind : (name word rest : List ℕ) → word ≡ name ++ rest → (number : List ℕ) × NamesNumber name number word → IsNumber rest
 number_is_behind name word rest is named = subst IsNumber (append_cancel_left name named.0 rest (sym named.1.form ∙ is)) named.1.is
+
+-- a word that was read asks for something
+pub asked_word : (asked : Asked) (word : List ℕ) → IsAsked asked word → IsQueryWord word
+asked_word (asked.Ls path) word named = inl (Ls path.now, named)
+asked_word (asked.Stat path) word named = inl (Stat path.now, named)
+asked_word (asked.Cat path) word named = inl (Cat path.now, named)
+asked_word asked.Later word later = inr later
