@@ -1,5 +1,5 @@
 -- The first two entries of a directory.
-use Rattle.std.proofs.Common.{◌≡◌, inl, inr, arith, ◌≤◌, length, ℕ, Bool, true, false, ◌&&◌, List, [], ◌∷◌, drop, refl, sym, ◌∙◌, ap, Some}
+use Rattle.std.proofs.Common.{◌≡◌, inl, inr, arith, ℕ, Bool, true, false, ◌&&◌, List, [], ◌∷◌, drop, refl, sym, ◌∙◌, ap, Some}
 use Rattle.std.proofs.lemmas.Bool.{cases_Bool}
 use Rattle.std.specs.Prelude.{codes, bytes_eq}
 use Rattle.o2_ondisk.specs.DirEntries.{dir_entry_of}

@@ -1,10 +1,10 @@
 -- The blocks of a directory, one after the other.
-use Rattle.std.proofs.Common.{◌≡◌, inl, inr, ℕ, zero, suc, ◌+◌, ◌*◌, ◌<◌, ◌≤◌, true, false, cond, nat_lt, List, [], ◌∷◌, ◌++◌, All, map, filter, flat_map, take, get_or, length, refl, sym, ◌∙◌, ap, subst, arith}
+use Rattle.std.proofs.Common.{◌≡◌, inl, inr, ℕ, zero, suc, ◌+◌, ◌*◌, ◌<◌, cond, nat_lt, List, [], ◌∷◌, ◌++◌, All, map, filter, flat_map, take, get_or, length, sym, ◌∙◌, ap, subst, arith}
 use Rattle.std.specs.List.{range_with_len}
 use Rattle.std.proofs.lemmas.Bool.{cases_Bool}
 use Rattle.std.proofs.lemmas.List.{append_assoc, append-nil, map_push, take_more}
 use Rattle.std.proofs.lemmas.List.Elements.{filter-append, All-push}
-use Rattle.std.proofs.lemmas.Grind.{flat_map-append, common_steps}
+use Rattle.std.proofs.lemmas.Grind.{flat_map-append}
 use Rattle.o2_model.specs.Words.{push}
 use Rattle.o2_extent.specs.declared.leaf.Leaf.{Leaf}
 use Rattle.o2_dir.specs.declared.places.Place.{Place}

@@ -1,7 +1,7 @@
 -- The live entries of a block, one after the other.
-use Rattle.std.proofs.Common.{◌≡◌, inl, inr, ℕ, ◌+◌, ◌<◌, ◌≤◌, true, false, cond, List, [], ◌∷◌, ◌++◌, length, drop, refl, sym, ◌∙◌, ap, arith, Option, Some, None, option_map}
+use Rattle.std.proofs.Common.{◌≡◌, inl, inr, ℕ, ◌+◌, ◌<◌, ◌≤◌, Bool, true, false, cond, List, [], ◌∷◌, length, take, drop, refl, sym, ◌∙◌, ap, arith, Option, Some, None, option_map}
 use Rattle.std.proofs.lemmas.Bool.{cases_Bool}
-use Rattle.std.proofs.lemmas.List.{length-drop, drop-drop, drop_all, append_assoc, append-nil}
+use Rattle.std.proofs.lemmas.List.{length-drop, drop-drop, drop_all, append_assoc, append-nil, length-take, take-append-le}
 use Rattle.o2_ondisk.specs.DirEntries.{dir_entry_of}
 use Rattle.o2_model.specs.Words.{push}
 use Rattle.o2_model.specs.Directories.{NamedEntry, Entry, entry_at_front, is_live, has_entry, before, behind, entries_in, live_from}
@@ -19,6 +19,15 @@ live_one block at e (Some es) front = elim (cases_Bool (is_live e)) [
   | inl live ↦ rw live (behind-push front (standing block at e) (Some (live_from block (at + e.fields.rec_len) es)))
   | inr void ↦ rw void refl
 ]
+
+-- one more entry leaves those before where they are
+pub kept_more : {A : Type 0} (old now new : List A) (b : Bool) (x : A) → take (length old) now ≡ old → new ≡ cond b (push now x) now → take (length old) new ≡ old
+kept_more old now new b x kept is =
+    let long : length old ≤ length now = omega (arith, length-take (length old) now, ap length kept) in
+    ap (take (length old)) is ∙ elim (cases_Bool b) [
+      | inl more ↦ rw more (take-append-le (length old) now (x ∷ []) long ∙ kept)
+      | inr same ↦ rw same kept
+    ]
 
 -- one more entry is read
 pub read_more : (block at : ℕ) (front new : List Entry) (bytes : List ℕ) → has_entry (drop at bytes) ≡ true

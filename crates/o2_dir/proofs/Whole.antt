@@ -1,5 +1,5 @@
 -- A directory as a whole: where its blocks are, and which checks it fails.
-use Rattle.std.proofs.Common.{◌≡◌, inl, inr, ℕ, zero, suc, ◌+◌, ◌*◌, ◌/◌, ◌%◌, ◌^◌, ◌-◌, ◌<◌, ◌≤◌, Bool, true, false, cond, ◌&&◌, ◌==◌, nat_lt, List, [], ◌∷◌, ◌++◌, All, map, filter, flat_map, get_or, length, refl, sym, ◌∙◌, ap, subst, arith, Option, Some, None}
+use Rattle.std.proofs.Common.{◌≡◌, inl, inr, ℕ, zero, suc, ◌+◌, ◌*◌, ◌/◌, ◌%◌, ◌≤◌, Bool, true, false, cond, ◌&&◌, ◌==◌, nat_lt, List, [], ◌∷◌, ◌++◌, All, map, filter, flat_map, get_or, length, refl, sym, ◌∙◌, ap, subst, arith, Option, Some, None}
 use Rattle.std.specs.List.{range_with_len}
 use Rattle.std.proofs.Math.Nat.{mul-le-mul_right}
 use Rattle.std.proofs.lemmas.Nat.{div-add-mod'}
@@ -16,13 +16,13 @@ use Rattle.o2_model.specs.Checks.Extent.{extent_faults}
 use Rattle.o2_model.specs.Checks.DirBlock.{is_sound_dir_block, dir_block_faults}
 use Rattle.o2_model.specs.Clusters.{are_clusters_in_range}
 use Rattle.o2_model.specs.Extents.{leaf_clusters, with_leaf, with_seen, end_of, with_met, list_in_block, most_in_block, is_extent_block, is_sound_header, is_sound_leaf, names_new_block, nothing_read, read_records, read_list, with_fault, records_in_block, Extents, extent_list}
-use Rattle.o2_model.specs.Inodes.{extents, has_list, is_directory, is_directory_kind, is_inline, kind, leaf_records, most_flags, most_in_dinode}
+use Rattle.o2_model.specs.Inodes.{extents, has_list, is_directory, is_directory_kind, kind, leaf_records, most_flags, most_in_dinode}
 use Rattle.o2_model.specs.Directories.{DirBlock, dir_block, dir_blocks, mapped, is_written, entries_of_block, directory_entries}
 use Rattle.o2_model.specs.Checks.InodeSize.{has_sound_size, is_directory_size, is_size_of_kind, inode_size_faults}
 use Rattle.o2_extent.specs.Readings.{leaf_of}
 use Rattle.o2_extent.specs.declared.leaf.Leaf.{Leaf}
 use Rattle.o2_dir.specs.declared.places.Place.{Place}
-use Rattle.o2_dir.specs.Blocks.{is_written_leaf, place_in, places_in, places_of, block_at_place, EndsIn, Keeps}
+use Rattle.o2_dir.specs.Blocks.{place_in, places_in, places_of, block_at_place, EndsIn, Keeps}
 use Rattle.o2_dir.specs.Fails.{IsMapped, FailsFirst}
 use Rattle.o2_dir.specs.declared.reading.Reading.{Reading}
 use Rattle.o2_model.specs.declared.check.Check.{Check}
@@ -117,7 +117,7 @@ mapped_one : (v : Volume) (r : ExtentRec) (ks : List ℕ) → map (dir_block v (
 mapped_one v r [] = refl
 mapped_one v r (k ∷ ks) = ap (λ bs. dir_block v (r.cpos * per_cluster v) r.blkno k ∷ bs) (mapped_one v r ks)
 
-mapped_all : (v : Volume) (limit : ℕ) (rs : List ExtentRec) → flat_map (mapped v limit) (filter is_written rs) ≡ map (block_at_place v) (places_of (per_cluster v) limit (map leaf_of rs))
+pub mapped_all : (v : Volume) (limit : ℕ) (rs : List ExtentRec) → flat_map (mapped v limit) (filter is_written rs) ≡ map (block_at_place v) (places_of (per_cluster v) limit (map leaf_of rs))
 mapped_all v limit [] = refl
 mapped_all v limit (r ∷ rs) = elim (cases_Bool (is_written r)) [
   | inr unwritten ↦ rw unwritten (mapped_all v limit rs)

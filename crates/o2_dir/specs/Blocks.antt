@@ -1,5 +1,5 @@
 -- The blocks of a directory by the leaf records of its extents.
-use Rattle.std.specs.Prelude.{◌≡◌, ℕ, ◌+◌, ◌*◌, ◌≤◌, nat_lt, Bool, ◌&&◌, not, List, [], map, filter, flat_map, bytes_eq}
+use Rattle.std.specs.Prelude.{◌≡◌, ℕ, ◌+◌, ◌*◌, ◌≤◌, nat_lt, Bool, ◌&&◌, not, List, [], ◌∷◌, map, filter, flat_map, bytes_eq, take, drop}
 use Rattle.std.specs.List.{range_with_len}
 use Rattle.o2_ondisk.specs.Bits.{has_bits}
 use Rattle.o2_model.specs.Volume.{Volume}
@@ -39,11 +39,15 @@ EndsIn per_cluster blocks leaf = leaf.block + leaf.clusters * per_cluster ≤ bl
 abbrev pub block_at_place : Volume → Place → DirBlock
 block_at_place v p = record { place = p.place; block = p.block; found = entries_in (v.at p.block) }
 
+-- the inline bytes of a dinode of these bytes as a directory's one block, with the entries that fill them
+unfoldable pub blocks_in_dinode : ℕ → ℕ → List ℕ → List DirBlock
+blocks_in_dinode inode size bytes = record { place = 0; block = inode; found = entries_in (take size (drop 0xc8 bytes)) } ∷ []
+
 -- a live entry of this name stands at the front of the bytes
 abbrev pub begins_with : List ℕ → List ℕ → Bool
 begins_with name bytes = has_entry bytes && (is_live (entry_at_front bytes) && bytes_eq (entry_at_front bytes).name name)
 
--- What was read of these blocks: those that are not sound, and where all are, the entries.
+-- What was read of these blocks: those that are not sound, and the entries of all that their entries fill.
 pub record Keeps (reading : Reading) (blocks : List DirBlock) : Type 0 where
   pub faults : reading.faults.items ≡ fails_at (λ b. b.block) is_sound_dir_block blocks
-  pub entries : reading.faults.items ≡ [] → map told reading.entries.items ≡ flat_map entries_of_block blocks
+  pub entries : map told reading.entries.items ≡ flat_map entries_of_block blocks

@@ -24,6 +24,12 @@ FailsFirst v d check.InodeSize b = (extent_faults v d ≡ []) × IsLeast b (inod
 FailsFirst v d check.DirBlock b = (extent_faults v d ≡ []) × (inode_size_faults v d ≡ []) × IsLeast b (dir_block_faults v d)
 FailsFirst v d _ b = ⊥
 
+-- an inode whose block has these bytes, and whose extents are well formed, with these leaf records
+pub record IsRead (v : Volume) (d : ℕ) (bytes : List ℕ) (leaves : List Leaf) : Type 0 where
+  pub holds : bytes ≡ v.at d
+  pub sound : extent_faults v d ≡ []
+  pub are : leaves ≡ map leaf_of (leaf_records v d)
+
 -- a directory whose blocks the leaf records map
 pub record IsMapped (v : Volume) (d size : ℕ) (leaves : List Leaf) : Type 0 where
   pub outside : is_inline v d ≡ false

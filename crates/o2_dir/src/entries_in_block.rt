@@ -1,5 +1,5 @@
 // The entries that fill the bytes of a block.
-ghost use Rattle.std.specs.Prelude.{◌≡◌, ◌+◌, ◌≤◌, ◌<◌, length, map, IfOk, Some, None, option_map, true, false, if◌then◌else◌};
+ghost use Rattle.std.specs.Prelude.{◌≡◌, ◌+◌, ◌≤◌, ◌<◌, [], ◌++◌, length, map, take, IfOk, Some, None, option_map, unwrap_or, is_some, true, false, if◌then◌else◌};
 ghost use Rattle.o2_ondisk.specs.DirEntries.{dir_entry_of};
 ghost use Rattle.o2_model.specs.Words.{push};
 ghost use Rattle.o2_model.specs.Directories.{entry_at_front, is_live, has_entry as begins_with_entry, entries_in, behind, live_from};
@@ -82,14 +82,16 @@ fn add_live(
     }
 }
 
-/// Puts the live ones of the entries that fill the bytes of this block at the end. False where none fill them.
-pub fn add_entries(
+/// Puts the live ones of the entries that fill the bytes of this block at the end. False where none fill them, and then
+/// some may have been put there.
+fn add_while_filled(
     alloc: Global,
     bytes: &[u8],
     block: u64,
     entries: &mut Vec<Entry>,
 ) -> Result<bool, NoMemory>
     requires { length bytes.now ≤ 4096 }
+    ensures kept { IfOk result (λ _. take (length (map told entries.old.items)) (map told entries.new.items) ≡ map told entries.old.items) }
     ensures filled { IfOk result (λ filled. filled ≡ true
         → Some (map told entries.new.items) ≡ behind (map told entries.old.items) (option_map (live_from block 0) (entries_in bytes.now))) }
     ensures bad { IfOk result (λ filled. filled ≡ false → entries_in bytes.now ≡ None) }
@@ -104,4 +106,24 @@ pub fn add_entries(
         at += usize::from(read_dir_entry(rest).rec_len);
     }
     Ok(true)
+}
+
+/// Puts the live ones of the entries that fill the bytes of this block at the end. False where none fill them, and then
+/// nothing is put there.
+pub fn add_entries(
+    alloc: Global,
+    bytes: &[u8],
+    block: u64,
+    entries: &mut Vec<Entry>,
+) -> Result<bool, NoMemory>
+    requires { length bytes.now ≤ 4096 }
+    ensures entries { IfOk result (λ _. map told entries.new.items ≡ map told entries.old.items ++ live_from block 0 (unwrap_or (entries_in bytes.now) [])) }
+    ensures filled { IfOk result (λ filled. filled ≡ is_some (entries_in bytes.now)) }
+{
+    let before = entries.len();
+    let filled = add_while_filled(alloc, bytes, block, entries)?;
+    if !filled {
+        entries.truncate(before);
+    }
+    Ok(filled)
 }

@@ -106,6 +106,40 @@ fn add_written(
     add_mapped(per_cluster, limit, leaf, blocks, places)
 }
 
+/// The blocks of a directory that the records map, those at places below `limit`.
+pub fn places_within(
+    alloc: Global,
+    per_cluster: u64,
+    limit: u64,
+    blocks: u64,
+    leaves: &[Leaf],
+) -> Result<Vec<Place>, NoMemory>
+    requires few { per_cluster ≤ 2048 }
+    requires ends { All (λ leaf. EndsIn per_cluster blocks leaf) leaves.now }
+    ensures places { IfOk result (λ places. places.items ≡ places_of per_cluster limit leaves.now) }
+    ensures inside { IfOk result (λ places. All (λ p. p.block < blocks) places.items) }
+{
+    let mut places = Vec::new(alloc);
+    for leaf in leaves {
+        add_written(per_cluster, limit, leaf, blocks, &mut places)?;
+    }
+    Ok(places)
+}
+
+/// Whether the clusters of each of the records lie within so many blocks.
+fn all_end_in(leaves: &[Leaf], per_cluster: u64, blocks: u64) -> bool
+    requires { per_cluster ≤ 2048 }
+    ensures yes { result ≡ true → All (λ leaf. EndsIn per_cluster blocks leaf) leaves.now }
+    ensures no { result ≡ false → All (λ leaf. EndsIn per_cluster blocks leaf) leaves.now → ⊥ }
+{
+    for leaf in leaves {
+        if !ends_in(leaf, per_cluster, blocks) {
+            return false;
+        }
+    }
+    true
+}
+
 /// The blocks of a directory that the records map, those at places below `limit`. None where a record does not lie within
 /// so many blocks.
 pub fn places_of_leaves(
@@ -120,12 +154,8 @@ pub fn places_of_leaves(
     ensures places { IfOk result (λ found. IfSome found (λ places. places.items ≡ places_of per_cluster limit leaves.now)) }
     ensures inside { IfOk result (λ found. IfSome found (λ places. All (λ p. p.block < blocks) places.items)) }
 {
-    let mut places = Vec::new(alloc);
-    for leaf in leaves {
-        if !ends_in(leaf, per_cluster, blocks) {
-            return Ok(None);
-        }
-        add_written(per_cluster, limit, leaf, blocks, &mut places)?;
+    if !all_end_in(leaves, per_cluster, blocks) {
+        return Ok(None);
     }
-    Ok(Some(places))
+    Ok(Some(places_within(alloc, per_cluster, limit, blocks, leaves)?))
 }

@@ -1,5 +1,5 @@
 -- The dots are the first two entries.
-use Rattle.std.proofs.Common.{◌≡◌, ◌&&◌, true, false, drop, refl, sym, ◌∙◌, ap}
+use Rattle.std.proofs.Common.{◌≡◌, ◌&&◌, true, false, drop, sym, ◌∙◌, ap}
 use Rattle.std.specs.Prelude.{codes}
 use Rattle.std.proofs.lemmas.List.{take_rest}
 use Rattle.o2_ondisk.specs.DirEntries.{dir_entry_of}

@@ -1,26 +1,23 @@
--- Each step by a lemma over plain lists.
-use Rattle.std.proofs.Common.{◌≡◌, drop, true, arith, sym, ◌∙◌, ap}
-use Rattle.std.proofs.lemmas.List.{length-drop, take_rest}
-use Rattle.o2_ondisk.specs.DirEntries.{dir_entry_of}
-use Rattle.o2_model.specs.Directories.{has_entry}
-use Rattle.o2_model.proofs.Entries.{within}
-use Rattle.o2_dir.proofs.Steps.{read_more, read_bad, read_all}
+-- Where none fill the bytes, the entries are cut back to those before.
+use Rattle.std.proofs.Common.{rules, ◌≡◌, map, take, length, sym, ◌∙◌, ap}
+use Rattle.std.specs.Prelude.{is_some}
+use Rattle.o2_model.specs.Directories.{entries_in, live_from}
+use Rattle.o2_dir.specs.Told.{told}
+use Rattle.o2_dir.proofs.Kept.{cut_back, entries_filled, found_filled, entries_none}
 use Rattle.o2_dir.proofs.entries_in_block.add_entries.Goals as goal
 
-pub returns-then-not-has_entry-clause-bad : goal.returns-then-not-has_entry-clause-bad
-returns-then-not-has_entry-clause-bad c = λ _. read_bad _ c.loop-at.at _ _ c.args.bytes.now c.loop-at-test.true (sym (rw take_rest at c.has_entry.ensures.test) ∙ c.if-not-has_entry.true) c.loop-at.invariant.read
+pub returns-then-not-filled-clause-entries : goal.returns-then-not-filled-clause-entries
+returns-then-not-filled-clause-entries c =
+    let n : c.len-before.result ≡ length c.args.entries.now.items = search rules in
+    let is : c.truncate.new.self.items ≡ take (length c.args.entries.now.items) c.add_while_filled.new.entries.items = c.truncate.ensures.items ∙ ap (λ n. take n c.add_while_filled.new.entries.items) n in
+    cut_back told c.args.entries.now.items c.add_while_filled.new.entries.items c.truncate.new.self.items c.in_ok-filled.ensures.kept is
+    ∙ entries_none c.args.block (map told c.args.entries.now.items) (entries_in c.args.bytes.now) (c.in_ok-filled.ensures.bad c.if-not-filled.true)
 
-pub loop-at-preserved : goal.loop-at-preserved
-loop-at-preserved c =
-    let bytes = c.args.bytes.now in
-    let rest = take_rest bytes c.loop-at.at in
-    let good : has_entry (drop c.loop-at.at bytes) ≡ true = sym (rw rest at c.has_entry.ensures.test) ∙ c.if-not-has_entry.false in
-    let is : c.read_dir_entry.result ≡ dir_entry_of (drop c.loop-at.at bytes) = rw rest at c.read_dir_entry.ensures in
-    let len : c.from-at.result ≡ (dir_entry_of (drop c.loop-at.at bytes)).rec_len = c.from-at.ensures ∙ ap (λ x. x.rec_len) is in
-    record {
-      read = rw len (read_more _ c.loop-at.at _ _ bytes good (rw rest at c.in_ok-add_live.ensures) ∙ c.loop-at.invariant.read);
-      within = omega (arith, (within (drop c.loop-at.at bytes) good).inside, len, length-drop c.loop-at.at bytes);
-    }
+pub returns-then-not-filled-clause-filled : goal.returns-then-not-filled-clause-filled
+returns-then-not-filled-clause-filled c = c.if-not-filled.true ∙ sym (ap is_some (c.in_ok-filled.ensures.bad c.if-not-filled.true))
 
-pub returns-clause-filled : goal.returns-clause-filled
-returns-clause-filled c = λ _. read_all _ c.loop-at.at _ _ c.args.bytes.now c.loop-at-test.false c.loop-at.invariant.read
+pub returns-else-not-filled-clause-entries : goal.returns-else-not-filled-clause-entries
+returns-else-not-filled-clause-entries c = entries_filled _ (map told c.args.entries.now.items) (live_from c.args.block 0) (entries_in c.args.bytes.now) (c.in_ok-filled.ensures.filled c.if-not-filled.false)
+
+pub returns-else-not-filled-clause-filled : goal.returns-else-not-filled-clause-filled
+returns-else-not-filled-clause-filled c = c.if-not-filled.false ∙ sym (found_filled _ (map told c.args.entries.now.items) (live_from c.args.block 0) (entries_in c.args.bytes.now) (c.in_ok-filled.ensures.filled c.if-not-filled.false))

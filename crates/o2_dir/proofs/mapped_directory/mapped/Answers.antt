@@ -1,10 +1,9 @@
 -- The places are those of the directory's blocks.
-use Rattle.std.proofs.Common.{◌≡◌, ◌/◌, true, false, map, sym, ◌∙◌, ap}
+use Rattle.std.proofs.Common.{◌≡◌, map, sym, ◌∙◌}
 use Rattle.std.proofs.lemmas.Result.{IfOk-weaker, IfErr-weaker}
 use Rattle.o2_extent.specs.Seen.{volume_seen}
 use Rattle.o2_model.specs.declared.check.Check.TheVariants.{InodeSize}
-use Rattle.o2_model.specs.Checks.InodeSize.{has_sound_size}
-use Rattle.o2_dir.specs.Blocks.{block_at_place, places_of}
+use Rattle.o2_dir.specs.Blocks.{block_at_place}
 use Rattle.o2_dir.proofs.Whole.{size_told, blocks_told, ends_told, entries_kept, faults_kept, fails_size, fails_blocks, size_sound}
 use Rattle.o2_dir.proofs.mapped_directory.mapped.Goals as goal
 

@@ -1,5 +1,5 @@
 -- The places so far are the first ones.
-use Rattle.std.proofs.Common.{◌≡◌, ◌*◌, ◌<◌, ◌++◌, All}
+use Rattle.std.proofs.Common.{◌≡◌, ◌<◌, ◌++◌, All}
 use Rattle.o2_dir.specs.Blocks.{first_places}
 use Rattle.o2_dir.proofs.places.add_mapped.Given as goal
 

@@ -1,7 +1,7 @@
 -- The places so far are those of the records so far.
 use Rattle.std.proofs.Common.{◌≡◌, ◌<◌, All, take}
 use Rattle.o2_dir.specs.Blocks.{places_of}
-use Rattle.o2_dir.proofs.places.places_of_leaves.Given as goal
+use Rattle.o2_dir.proofs.places.places_within.Given as goal
 
 abbrev pub invariant-loop-leaf : goal.invariant-loop-leaf
 invariant-loop-leaf l = record {

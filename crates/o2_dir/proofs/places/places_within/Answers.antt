@@ -1,6 +1,6 @@
 -- One record more.
 use Rattle.o2_dir.proofs.MappedPlaces.{places_more}
-use Rattle.o2_dir.proofs.places.places_of_leaves.Goals as goal
+use Rattle.o2_dir.proofs.places.places_within.Goals as goal
 
 pub loop-leaf-preserved : goal.loop-leaf-preserved
 loop-leaf-preserved c = record {

@@ -1,0 +1,83 @@
+-- Whether the size of a file or a link is sound.
+use Rattle.std.proofs.Common.{◌≡◌, ℕ, ◌-◌, ◌*◌, ◌^◌, Bool, true, false, cond, ◌||◌, ◌&&◌, List, [], ◌∷◌, map, length, refl, sym, ◌∙◌, ap, Option, Some, None}
+use Rattle.std.specs.Prelude.{nat_le, nat_lt}
+use Rattle.std.specs.List.{list_any}
+use Rattle.o2_ondisk.specs.Number.{number_at}
+use Rattle.o2_ondisk.specs.Kinds.{kind_of_mode}
+use Rattle.o2_ondisk.specs.Dinodes.{dinode_of}
+use Rattle.o2_ondisk.specs.declared.dinode.Dinode.{Dinode}
+use Rattle.o2_ondisk.specs.declared.extent_rec.ExtentRec.{ExtentRec}
+use Rattle.o2_ondisk.specs.declared.kind.Kind.{Kind}
+use Rattle.o2_ondisk.specs.declared.kind.Kind.TheVariants.{File, Directory, Character, Block, Fifo, Socket, Link}
+use Rattle.o2_model.specs.Words.{among}
+use Rattle.o2_model.specs.Volume.{Volume, block_size, dinode}
+use Rattle.o2_model.specs.Clusters.{cluster_size}
+use Rattle.o2_model.specs.Inodes.{kind, is_inline, is_file, is_link, is_file_kind, is_link_kind, has_fast_text, leaf_records}
+use Rattle.o2_model.specs.Directories.{own_inodes}
+use Rattle.o2_model.specs.Contents.{maps_cluster}
+use Rattle.o2_model.specs.Checks.InodeSize.{is_link_size, is_file_size, is_size_of_kind, has_sound_size}
+use Rattle.o2_extent.specs.Maps.{has_cluster}
+use Rattle.o2_extent.specs.Readings.{leaf_of}
+use Rattle.o2_extent.specs.declared.leaf.Leaf.{Leaf}
+use Rattle.o2_dir.specs.FileData.{IsReadOf}
+
+-- the records of the reader say the same as the definition's of a cluster
+any_of_records : (k : ℕ) (rs : List ExtentRec) → list_any (has_cluster k) (map leaf_of rs) ≡ list_any (maps_cluster k) rs
+any_of_records k [] = refl
+any_of_records k (r ∷ rs) = ap (λ (b : Bool). maps_cluster k r || b) (any_of_records k rs)
+
+-- ---- by the kind
+of_link : (v : Volume) (b : ℕ) (k : Option Kind) → is_link_kind k ≡ true → is_size_of_kind v b k ≡ is_link_size v b
+of_link v b None h = cc
+of_link v b (Some Link) h = refl
+of_link v b (Some File) h = cc
+of_link v b (Some Directory) h = cc
+of_link v b (Some Character) h = cc
+of_link v b (Some Block) h = cc
+of_link v b (Some Fifo) h = cc
+of_link v b (Some Socket) h = cc
+
+of_file : (v : Volume) (b : ℕ) (k : Option Kind) → is_link_kind k ≡ false → (is_file_kind k || is_link_kind k) ≡ true → is_size_of_kind v b k ≡ is_file_size v b
+of_file v b None n h = cc
+of_file v b (Some File) n h = refl
+of_file v b (Some Link) n h = cc
+of_file v b (Some Directory) n h = cc
+of_file v b (Some Character) n h = cc
+of_file v b (Some Block) n h = cc
+of_file v b (Some Fifo) n h = cc
+of_file v b (Some Socket) n h = cc
+
+-- ---- what a reader is told
+pub inline_size : (v : Volume) (b size : ℕ) (bytes : List ℕ) → bytes ≡ v.at b → length bytes ≡ block_size v → size ≡ (dinode v b).size → is_inline v b ≡ true
+    → (nat_le size (number_at 0xc0 2 bytes) && nat_le (number_at 0xc0 2 bytes) (length bytes - 200)) ≡ has_sound_size v b
+unfolding has_sound_size
+inline_size v b size bytes holds long tells inside = rw inside
+    (ap (λ k. nat_le k (number_at 0xc0 2 bytes) && nat_le (number_at 0xc0 2 bytes) (length bytes - 200)) tells
+    ∙ (ap (λ n. nat_le (dinode v b).size (number_at 0xc0 2 bytes) && nat_le (number_at 0xc0 2 bytes) (n - 200)) long
+    ∙ ap (λ bs. nat_le (dinode v b).size (number_at 0xc0 2 bs) && nat_le (number_at 0xc0 2 bs) (block_size v - 200)) holds))
+
+link_size_is : (n block : ℕ) (d e : Dinode) (leaves : List Leaf) (rs : List ExtentRec) → d ≡ e → n ≡ block → leaves ≡ map leaf_of rs
+    → (nat_lt 0 d.size && cond (has_fast_text d) (nat_lt d.size (n - 192)) (list_any (has_cluster 0) leaves)) ≡ (nat_lt 0 e.size && cond (has_fast_text e) (nat_lt e.size (block - 192)) (list_any (maps_cluster 0) rs))
+link_size_is n block d e leaves rs same long are =
+    ap (λ (x : Dinode). nat_lt 0 x.size && cond (has_fast_text x) (nat_lt x.size (n - 192)) (list_any (has_cluster 0) leaves)) same
+    ∙ (ap (λ k. nat_lt 0 e.size && cond (has_fast_text e) (nat_lt e.size (k - 192)) (list_any (has_cluster 0) leaves)) long
+    ∙ ap (λ (a : Bool). nat_lt 0 e.size && cond (has_fast_text e) (nat_lt e.size (block - 192)) a) (ap (list_any (has_cluster 0)) are ∙ any_of_records 0 rs))
+
+pub link_size : (v : Volume) (b : ℕ) (d : Dinode) (bytes : List ℕ) (leaves : List Leaf) → IsReadOf v b bytes leaves → length bytes ≡ block_size v → d ≡ dinode_of bytes → is_inline v b ≡ false → is_link_kind (kind v b) ≡ true
+    → (nat_lt 0 d.size && cond (has_fast_text d) (nat_lt d.size (length bytes - 192)) (list_any (has_cluster 0) leaves)) ≡ has_sound_size v b
+unfolding has_sound_size
+link_size v b d bytes leaves read long tells outside link = rw outside
+    (link_size_is (length bytes) (block_size v) d (dinode v b) leaves (leaf_records v b) (tells ∙ ap dinode_of read.block) long read.records
+    ∙ sym (of_link v b (kind v b) link))
+
+pub file_size : (v : Volume) (b size : ℕ) → size ≡ (dinode v b).size → is_inline v b ≡ false → is_link_kind (kind v b) ≡ false → (is_file v b || is_link v b) ≡ true
+    → (nat_le size (cluster_size v * 2 ^ 32) || among (own_inodes v) b) ≡ has_sound_size v b
+unfolding has_sound_size is_file is_link
+file_size v b size tells outside other kinds = rw outside
+    (ap (λ k. nat_le k (cluster_size v * 2 ^ 32) || among (own_inodes v) b) tells
+    ∙ sym (of_file v b (kind v b) other kinds))
+
+pub link_told : (bytes at : List ℕ) (d : Dinode) (told_of is : Bool) → bytes ≡ at → d ≡ dinode_of bytes → told_of ≡ is_link_kind (kind_of_mode d.mode) → told_of ≡ is → is_link_kind (kind_of_mode (dinode_of at).mode) ≡ is
+link_told bytes at d told_of is holds dinode_is tells tested =
+    ap (λ bs. is_link_kind (kind_of_mode (dinode_of bs).mode)) (sym holds)
+    ∙ (ap (λ (x : Dinode). is_link_kind (kind_of_mode x.mode)) (sym dinode_is) ∙ (sym tells ∙ tested))

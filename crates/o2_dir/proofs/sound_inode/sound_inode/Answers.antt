@@ -1,0 +1,28 @@
+-- The faults that were read are EXTENT's.
+use Rattle.std.proofs.Common.{◌≡◌, sym, ◌∙◌, subst}
+use Rattle.o2_model.specs.Words.{IsLeast}
+use Rattle.o2_model.specs.Checks.Extent.{extent_faults}
+use Rattle.o2_model.proofs.Readings.{faults_of_own_list}
+use Rattle.o2_extent.specs.Seen.{volume_seen}
+use Rattle.o2_dir.proofs.sound_inode.sound_inode.Goals as goal
+
+pub returns-in-Some-clause-bad : goal.returns-in-Some-clause-bad
+returns-in-Some-clause-bad g c check b is = (
+  cc,
+  λ I told.
+      let v = volume_seen c.args.geo.now I in
+      let keeps = c.in_ok-found.ensures.read I told in
+      let same : c.in_ok-found.found.reading.faults.items ≡ extent_faults v c.args.inode = keeps.faults ∙ sym (faults_of_own_list v c.args.inode) in
+      let block : c.in-Some.block ≡ b = cc in
+      subst (λ n. IsLeast n (extent_faults v c.args.inode)) block (subst (IsLeast c.in-Some.block) (c.as_slice.ensures.value ∙ same) c.in-Some.ensures),
+)
+
+pub returns-clause-read : goal.returns-clause-read
+returns-clause-read g c I told =
+    let v = volume_seen c.args.geo.now I in
+    let keeps = c.in_ok-found.ensures.read I told in
+    record {
+      holds = c.in_ok-found.ensures.block I told;
+      sound = faults_of_own_list v c.args.inode ∙ (sym keeps.faults ∙ (sym c.as_slice.ensures.value ∙ c.in_default.ensures));
+      are = keeps.leaves;
+    }

@@ -1,0 +1,85 @@
+// The blocks of a directory, also where something is wrong with it.
+ghost use Rattle.std.specs.Prelude.{◌≡◌, ◌∷◌, [], ◌^◌, ◌/◌, ◌≤◌, ◌<◌, length, map, IfOk, IsErrOf, Some};
+ghost use Rattle.o2_disk.specs.Image.{Image};
+ghost use Rattle.o2_disk.specs.Device.{Rose};
+ghost use Rattle.o2_view.specs.Views.{view_state, view_blocks};
+ghost use Rattle.o2_model.specs.Volume.{Volume, per_cluster, block_size};
+ghost use Rattle.o2_model.specs.Directories.{dir_blocks, inline_block};
+ghost use Rattle.o2_extent.specs.Seen.{LiesIn, volume_seen};
+ghost use Rattle.o2_extent.specs.Reads.{OnlyReads};
+ghost use Rattle.o2_extent.specs.Readings.{Within};
+ghost use Rattle.o2_dir.specs.Blocks.{Keeps, block_at_place, places_of};
+
+use crate::blocks::read_places;
+use crate::parts::first;
+use crate::places::{places_within, put};
+use crate::reading::{Reading, add_block, start};
+use o2_disk::{Disk, NoMemory};
+use o2_extent::{Leaf, block_bytes, blocks_per_cluster, is_inline, read_inode, volume_blocks};
+use o2_model::Geo;
+use o2_ondisk::read_dinode;
+use o2_view::{View, ViewFault};
+use std::alloc::Global;
+
+/// Reads the inline bytes of a dinode of these bytes as a directory's one block.
+fn read_inline(alloc: Global, inode: u64, bytes: &[u8]) -> Result<Reading, NoMemory>
+    requires long { 512 ≤ length bytes.now }
+    requires most { length bytes.now ≤ 4096 }
+    ensures { IfOk result (λ reading. (v : Volume) → bytes.now ≡ v.at inode → length bytes.now ≡ 2 ^ v.geo.block_bits → Keeps reading (inline_block v inode ∷ [])) }
+{
+    let mut reading = start(alloc);
+    let size = read_dinode(bytes).size;
+    let room = (bytes.len() - 200) as u64;
+    if room < size {
+        put(&mut reading.faults, inode)?;
+        return Ok(reading);
+    }
+    let part = first(&bytes[0xc8..], size);
+    add_block(alloc, part, 0, inode, &mut reading)?;
+    Ok(reading)
+}
+
+/// Reads the blocks that the records map, those below so many bytes.
+fn read_mapped<D: Disk, const N: usize>(
+    alloc: Global,
+    view: &mut View<'_, D, N>,
+    geo: &Geo,
+    size: u64,
+    leaves: &[Leaf],
+) -> Result<Reading, ViewFault>
+    requires geo { LiesIn geo.now view.old }
+    requires within { Within geo.now leaves.now }
+    ensures read { IfOk result (λ reading. (I : Image) → (view_state view.old).content ≡ Some I
+        → Keeps reading (map (block_at_place (volume_seen geo.now I)) (places_of (per_cluster (volume_seen geo.now I)) (size / block_size (volume_seen geo.now I)) leaves.now))) }
+    ensures reads { OnlyReads view.old view.new }
+    ensures fault { IsErrOf result ViewFault.DeviceFault → Rose (view_state view.old).faults (view_state view.new).faults }
+{
+    let bytes = block_bytes(geo);
+    let per_cluster = blocks_per_cluster(geo);
+    let blocks = volume_blocks(geo);
+    let places = places_within(alloc, per_cluster, size / bytes, blocks, leaves)?;
+    read_places(alloc, view, geo, places.as_slice())
+}
+
+/// Reads the blocks of the directory at `inode`, or its inline bytes, also where its list or its size is wrong.
+pub fn read_blocks<D: Disk, const N: usize>(
+    alloc: Global,
+    view: &mut View<'_, D, N>,
+    geo: &Geo,
+    inode: u64,
+) -> Result<Reading, ViewFault>
+    requires geo { LiesIn geo.now view.old }
+    requires inode { inode < view_blocks view.old }
+    ensures read { IfOk result (λ reading. (I : Image) → (view_state view.old).content ≡ Some I → Keeps reading (dir_blocks (volume_seen geo.now I) inode)) }
+    ensures reads { OnlyReads view.old view.new }
+    ensures fault { IsErrOf result ViewFault.DeviceFault → Rose (view_state view.old).faults (view_state view.new).faults }
+{
+    let _bytes = block_bytes(geo);
+    let found = read_inode(alloc, view, geo, inode)?;
+    let bytes = found.block.as_slice();
+    let dinode = read_dinode(bytes);
+    if is_inline(&dinode) {
+        return Ok(read_inline(alloc, inode, bytes)?);
+    }
+    read_mapped(alloc, view, geo, dinode.size, &found.reading.leaves)
+}

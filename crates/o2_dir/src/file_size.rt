@@ -1,0 +1,129 @@
+// Whether the size of a file or a link is sound.
+ghost use Rattle.std.specs.Prelude.{◌≡◌, ◌-◌, ◌*◌, ◌^◌, ◌≤◌, ◌<◌, ◌||◌, ◌&&◌, true, nat_lt, nat_le, length, IfOk, IsErrOf, Some, if◌then◌else◌};
+ghost use Rattle.std.specs.List.{list_any};
+ghost use Rattle.o2_disk.specs.Image.{Image};
+ghost use Rattle.o2_disk.specs.Device.{Rose};
+ghost use Rattle.o2_ondisk.specs.Number.{number_at};
+ghost use Rattle.o2_ondisk.specs.Kinds.{kind_of_mode};
+ghost use Rattle.o2_view.specs.Views.{view_state, view_blocks};
+ghost use Rattle.o2_model.specs.Words.{among};
+ghost use Rattle.o2_model.specs.Directories.{own_inodes};
+ghost use Rattle.o2_model.specs.Inodes.{has_fast_text, is_link_kind, is_file, is_link};
+ghost use Rattle.o2_model.specs.Checks.InodeSize.{has_sound_size as is_sound};
+ghost use Rattle.o2_extent.specs.Maps.{has_cluster};
+ghost use Rattle.o2_extent.specs.Seen.{HasSizes, LiesIn, volume_seen};
+ghost use Rattle.o2_extent.specs.Reads.{OnlyReads};
+ghost use Rattle.o2_dir.specs.FileData.{IsReadOf};
+
+use crate::own_inodes::is_own;
+use o2_disk::Disk;
+use o2_extent::{Leaf, is_fast_link, is_inline};
+use o2_model::Geo;
+use o2_ondisk::{Dinode, Kind, read_dinode, u16_at};
+use o2_view::{View, ViewFault};
+use std::alloc::Global;
+
+/// Whether so many bytes fit those that the dinode tells, and these its room.
+fn fits_inline(size: u64, bytes: &[u8]) -> bool
+    requires { 512 ≤ length bytes.now }
+    ensures { result ≡ (nat_le size (number_at 0xc0 2 bytes.now) && nat_le (number_at 0xc0 2 bytes.now) (length bytes.now - 200)) }
+{
+    let count = u64::from(u16_at(bytes, 0xc0));
+    let room = (bytes.len() - 200) as u64;
+    size <= count && count <= room
+}
+
+/// Whether a record is about the first cluster.
+fn maps_first(leaves: &[Leaf]) -> bool
+    ensures { result ≡ list_any (has_cluster 0) leaves.now }
+{
+    for leaf in leaves {
+        if leaf.cpos == 0 && 0 < leaf.clusters {
+            return true;
+        }
+    }
+    false
+}
+
+/// Whether a link has a text, in the dinode of these bytes or in its first cluster.
+fn has_text(dinode: &Dinode, bytes: &[u8], leaves: &[Leaf]) -> bool
+    requires { 512 ≤ length bytes.now }
+    ensures { result ≡ (nat_lt 0 dinode.now.size && (if has_fast_text dinode.now then nat_lt dinode.now.size (length bytes.now - 192) else list_any (has_cluster 0) leaves.now)) }
+{
+    let size = dinode.size;
+    if size == 0 {
+        return false;
+    }
+    if is_fast_link(dinode) {
+        return size < (bytes.len() - 192) as u64;
+    }
+    maps_first(leaves)
+}
+
+/// Whether so many bytes end within the clusters that have a number.
+fn ends_in_numbered(geo: &Geo, size: u64) -> bool
+    requires { HasSizes geo.now }
+    ensures { result ≡ nat_le size (2 ^ geo.now.cluster_bits * 2 ^ 32) }
+{
+    let cluster = 1u64 << geo.cluster_bits;
+    size <= cluster * 0x1_0000_0000
+}
+
+/// Whether a file of this size may have it.
+fn is_file_size<D: Disk, const N: usize>(
+    alloc: Global,
+    view: &mut View<'_, D, N>,
+    geo: &Geo,
+    inode: u64,
+    size: u64,
+) -> Result<bool, ViewFault>
+    requires geo { LiesIn geo.now view.old }
+    requires sysdir { geo.now.sysdir < view_blocks view.old }
+    ensures sound { IfOk result (λ sound. (I : Image) → (view_state view.old).content ≡ Some I
+        → sound ≡ (nat_le size (2 ^ geo.now.cluster_bits * 2 ^ 32) || among (own_inodes (volume_seen geo.now I)) inode)) }
+    ensures reads { OnlyReads view.old view.new }
+    ensures fault { IsErrOf result ViewFault.DeviceFault → Rose (view_state view.old).faults (view_state view.new).faults }
+{
+    if ends_in_numbered(geo, size) {
+        return Ok(true);
+    }
+    is_own(alloc, view, geo, inode)
+}
+
+/// Whether the dinode is one of a link.
+fn is_of_link(dinode: &Dinode) -> bool
+    ensures { result ≡ is_link_kind (kind_of_mode dinode.now.mode) }
+{
+    match Kind::of_mode(dinode.mode) {
+        Some(Kind::Link) => true,
+        _ => false,
+    }
+}
+
+/// Whether INODE_SIZE holds for the file or link at `inode`, whose dinode has these bytes, and which has these records.
+pub fn has_sound_size<D: Disk, const N: usize>(
+    alloc: Global,
+    view: &mut View<'_, D, N>,
+    geo: &Geo,
+    inode: u64,
+    bytes: &[u8],
+    leaves: &[Leaf],
+) -> Result<bool, ViewFault>
+    requires geo { LiesIn geo.now view.old }
+    requires sysdir { geo.now.sysdir < view_blocks view.old }
+    requires size { length bytes.now ≡ 2 ^ geo.now.block_bits }
+    requires long { 512 ≤ length bytes.now }
+    ensures sound { IfOk result (λ sound. (I : Image) → (view_state view.old).content ≡ Some I → IsReadOf (volume_seen geo.now I) inode bytes.now leaves.now
+        → (is_file (volume_seen geo.now I) inode || is_link (volume_seen geo.now I) inode) ≡ true → sound ≡ is_sound (volume_seen geo.now I) inode) }
+    ensures reads { OnlyReads view.old view.new }
+    ensures fault { IsErrOf result ViewFault.DeviceFault → Rose (view_state view.old).faults (view_state view.new).faults }
+{
+    let dinode = read_dinode(bytes);
+    if is_inline(&dinode) {
+        return Ok(fits_inline(dinode.size, bytes));
+    }
+    if is_of_link(&dinode) {
+        return Ok(has_text(&dinode, bytes, leaves));
+    }
+    is_file_size(alloc, view, geo, inode, dinode.size)
+}

@@ -1,0 +1,59 @@
+// The volume's own inodes.
+ghost use Rattle.std.specs.Prelude.{◌≡◌, ◌<◌, ◌||◌, ◌&&◌, ◌==◌, not, map, filter, IfOk, IsErrOf, Some};
+ghost use Rattle.std.specs.List.{list_any};
+ghost use Rattle.o2_disk.specs.Image.{Image};
+ghost use Rattle.o2_disk.specs.Device.{Rose};
+ghost use Rattle.o2_view.specs.Views.{view_state, view_blocks};
+ghost use Rattle.o2_model.specs.Words.{among};
+ghost use Rattle.o2_model.specs.Directories.{is_dot, own_inodes};
+ghost use Rattle.o2_extent.specs.Seen.{LiesIn, volume_seen};
+ghost use Rattle.o2_extent.specs.Reads.{OnlyReads};
+ghost use Rattle.o2_dir.specs.Told.{told};
+
+use crate::Entry;
+use crate::directory_blocks::read_blocks;
+use o2_disk::Disk;
+use o2_model::Geo;
+use o2_view::{View, ViewFault};
+use std::alloc::Global;
+
+/// Whether the entry is `.` or `..`.
+fn is_dot_entry(entry: &Entry) -> bool
+    ensures { result ≡ is_dot (told entry.now) }
+{
+    let name = entry.name.as_slice();
+    name == b".".as_slice() || name == b"..".as_slice()
+}
+
+/// Whether an entry other than the dots names the inode.
+fn are_naming(entries: &[Entry], inode: u64) -> bool
+    ensures { result ≡ among (map (λ e. e.inode) (filter (λ e. not (is_dot e)) (map told entries.now))) inode }
+{
+    for entry in entries {
+        if !is_dot_entry(entry) && entry.inode == inode {
+            return true;
+        }
+    }
+    false
+}
+
+/// Whether the inode is one of the volume's own: the system directory, or one that its entries name. A block of that
+/// directory which its entries do not fill names none.
+pub fn is_own<D: Disk, const N: usize>(
+    alloc: Global,
+    view: &mut View<'_, D, N>,
+    geo: &Geo,
+    inode: u64,
+) -> Result<bool, ViewFault>
+    requires geo { LiesIn geo.now view.old }
+    requires sysdir { geo.now.sysdir < view_blocks view.old }
+    ensures own { IfOk result (λ own. (I : Image) → (view_state view.old).content ≡ Some I → own ≡ among (own_inodes (volume_seen geo.now I)) inode) }
+    ensures reads { OnlyReads view.old view.new }
+    ensures fault { IsErrOf result ViewFault.DeviceFault → Rose (view_state view.old).faults (view_state view.new).faults }
+{
+    if inode == geo.sysdir {
+        return Ok(true);
+    }
+    let reading = read_blocks(alloc, view, geo, geo.sysdir)?;
+    Ok(are_naming(&reading.entries, inode))
+}
