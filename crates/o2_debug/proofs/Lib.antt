@@ -1,2 +1,4 @@
+pub mod CatLemmas
 pub mod Fronts
 pub mod Judged
+pub mod TextLemmas

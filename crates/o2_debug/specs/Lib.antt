@@ -1,4 +1,5 @@
 pub mod Taken
+pub mod Faults
 pub mod Lines
 pub mod Objects
 pub mod Texts

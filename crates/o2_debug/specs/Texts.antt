@@ -14,7 +14,7 @@ ls_text v d = concat (map entry_line (directory_entries v d))
 
 -- of `stat`: what the dinode says, and a line for each leaf record
 unfoldable pub stat_text : Volume → ℕ → List ℕ
-stat_text v b = concat (dinode_lines b (dinode v b)) ++ concat (map (λ r. extent_line (leaf_of r)) (leaf_records v b))
+stat_text v b = concat (dinode_lines b (dinode v b) ++ map extent_line (map leaf_of (leaf_records v b)))
 
 -- of `cat`: the bytes of the file
 unfoldable pub cat_text : Volume → ℕ → List ℕ

@@ -1,6 +1,8 @@
 // Why a query was not answered.
+use o2_dir::DirFault;
 use o2_disk::Failed;
 use o2_model::Check;
+use o2_view::ReadFault;
 use std::alloc::AllocError;
 use thiserror::Error;
 
@@ -47,5 +49,34 @@ impl From<Failed> for DebugFault {
 
     fn from(_: Failed) -> Self {
         DebugFault::OutputFault
+    }
+}
+
+impl From<ReadFault> for DebugFault {
+    ghost use Rattle.o2_debug.specs.Faults.{IsOfRead};
+
+    ghost from_gives = { IsOfRead };
+
+    fn from(fault: ReadFault) -> Self {
+        match fault {
+            ReadFault::NoMemory => DebugFault::NoMemory,
+            ReadFault::DeviceFault => DebugFault::DeviceFault,
+            ReadFault::Bad { check, block } => DebugFault::Bad { check, block },
+        }
+    }
+}
+
+impl From<DirFault> for DebugFault {
+    ghost use Rattle.o2_debug.specs.Faults.{IsOfDir};
+
+    ghost from_gives = { IsOfDir };
+
+    fn from(fault: DirFault) -> Self {
+        match fault {
+            DirFault::NoMemory => DebugFault::NoMemory,
+            DirFault::DeviceFault => DebugFault::DeviceFault,
+            DirFault::Bad { check, block } => DebugFault::Bad { check, block },
+            DirFault::Absent => DebugFault::Absent,
+        }
     }
 }
