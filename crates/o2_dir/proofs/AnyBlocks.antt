@@ -11,7 +11,7 @@ use Rattle.o2_model.specs.Inodes.{is_inline, inline_flag, leaf_records}
 use Rattle.o2_model.specs.Directories.{NamedEntry, DirBlock, dir_blocks, entries_in, inline_block, live_from}
 use Rattle.o2_extent.specs.Readings.{leaf_of}
 use Rattle.o2_extent.specs.declared.leaf.Leaf.{Leaf}
-use Rattle.o2_dir.specs.Blocks.{Keeps, block_at_place, places_of}
+use Rattle.o2_dir.specs.Blocks.{Keeps, blocks_in_dinode, block_at_place, places_of}
 use Rattle.o2_dir.specs.Told.{told}
 use Rattle.o2_dir.specs.declared.reading.Reading.{Reading}
 use Rattle.o2_dir.proofs.Kept.{empty_unsound, keeps_bad}
@@ -24,22 +24,22 @@ fits size n p long room = grind (arith, nat_tests)
 too_long : (size n p : ℕ) → n ≡ p → n - 200 < size → nat_le size (p - 200) ≡ false
 too_long size n p long room = grind (arith, nat_tests)
 
-found_is : (size n p : ℕ) (at bytes part : List ℕ) → n ≡ p → bytes ≡ at → size ≤ n - 200 → part ≡ take size (drop 0xc8 bytes) → size ≡ (dinode_of bytes).size
-    → entries_in part ≡ cond (nat_le (dinode_of at).size (p - 200)) (entries_in (take (dinode_of at).size (drop 0xc8 at))) None
-found_is size n p at bytes part long holds room is tells =
+found_is : (size n p : ℕ) (at bytes : List ℕ) → n ≡ p → bytes ≡ at → size ≤ n - 200 → size ≡ (dinode_of bytes).size
+    → entries_in (take size (drop 0xc8 bytes)) ≡ cond (nat_le (dinode_of at).size (p - 200)) (entries_in (take (dinode_of at).size (drop 0xc8 at))) None
+found_is size n p at bytes long holds room tells =
     let same : size ≡ (dinode_of at).size = tells ∙ ap (λ bs. (dinode_of bs).size) holds in
-    let part_is : part ≡ take (dinode_of at).size (drop 0xc8 at) = is ∙ (ap (λ k. take k (drop 0xc8 bytes)) same ∙ ap (λ bs. take (dinode_of at).size (drop 0xc8 bs)) holds) in
     let good : nat_le (dinode_of at).size (p - 200) ≡ true = ap (λ k. nat_le k (p - 200)) (sym same) ∙ fits size n p long room in
-    ap entries_in part_is ∙ ap (λ (b : Bool). cond b (entries_in (take (dinode_of at).size (drop 0xc8 at))) None) (sym good)
+    ap entries_in (ap (λ k. take k (drop 0xc8 bytes)) same ∙ ap (λ bs. take (dinode_of at).size (drop 0xc8 bs)) holds)
+    ∙ ap (λ (b : Bool). cond b (entries_in (take (dinode_of at).size (drop 0xc8 at))) None) (sym good)
 
 one_block : ℕ → Option (List NamedEntry) → List DirBlock
 one_block d o = record { place = 0; block = d; found = o } ∷ []
 
-pub inline_read : (v : Volume) (d size : ℕ) (bytes part : List ℕ) (reading : Reading) → bytes ≡ v.at d → length bytes ≡ 2 ^ v.geo.block_bits → size ≡ (dinode_of bytes).size → size ≤ length bytes - 200
-    → part ≡ take size (drop 0xc8 bytes) → Keeps reading (record { place = 0; block = d; found = entries_in part } ∷ []) → Keeps reading (inline_block v d ∷ [])
-unfolding one_block
-inline_read v d size bytes part reading holds long tells room is kept =
-    subst (λ (o : Option (List NamedEntry)). Keeps reading (one_block d o)) (found_is size (length bytes) (block_size v) (v.at d) bytes part long holds room is tells) kept
+pub inline_read : (v : Volume) (d size : ℕ) (bytes : List ℕ) (reading : Reading) → bytes ≡ v.at d → length bytes ≡ 2 ^ v.geo.block_bits → size ≡ (dinode_of bytes).size → size ≤ length bytes - 200
+    → Keeps reading (blocks_in_dinode d size bytes) → Keeps reading (inline_block v d ∷ [])
+unfolding one_block blocks_in_dinode
+inline_read v d size bytes reading holds long tells room kept =
+    subst (λ (o : Option (List NamedEntry)). Keeps reading (one_block d o)) (found_is size (length bytes) (block_size v) (v.at d) bytes long holds room tells) kept
 
 none_found : (size n p : ℕ) (at bytes : List ℕ) → n ≡ p → bytes ≡ at → n - 200 < size → size ≡ (dinode_of bytes).size
     → cond (nat_le (dinode_of at).size (p - 200)) (entries_in (take (dinode_of at).size (drop 0xc8 at))) None ≡ None

@@ -14,10 +14,12 @@ use Rattle.o2_model.specs.Inodes.{is_file, is_link, is_file_kind, is_link_kind, 
 use Rattle.o2_model.specs.Contents.{byte_of, bytes_of}
 use Rattle.o2_model.specs.Words.{IsLeast}
 use Rattle.o2_model.specs.declared.check.Check.{Check}
-use Rattle.o2_model.specs.declared.check.Check.TheVariants.{Extent, InodeSize}
+use Rattle.o2_model.specs.declared.check.Check.TheVariants.{InodeSize}
 use Rattle.o2_model.specs.Checks.Extent.{extent_faults}
 use Rattle.o2_model.specs.Checks.InodeSize.{has_sound_size, inode_size_faults}
 use Rattle.o2_extent.proofs.FileBytes.{range_split}
+use Rattle.o2_extent.specs.declared.leaf.Leaf.{Leaf}
+use Rattle.o2_dir.specs.Fails.{IsRead}
 use Rattle.o2_dir.specs.FileData.{DataFailsFirst}
 use Rattle.o2_dir.proofs.Whole.{size_bad}
 
@@ -94,11 +96,10 @@ kind_told v b d is = ap (λ (x : Dinode). is_file_kind (kind_of_mode x.mode) || 
 pub true_is_false : true ≡ false → ⊥
 true_is_false h = cc
 
--- ---- what is wrong
-pub fails_extent : (v : Volume) (b at least_block : ℕ) (check : Check) (faults : List ℕ) → check ≡ Extent → least_block ≡ at → faults ≡ extent_faults v b → IsLeast least_block faults → DataFailsFirst v b check at
-fails_extent v b at least_block check faults named placed are least =
-    subst (λ (k : Check). DataFailsFirst v b k at) (sym named) (subst (λ n. IsLeast n (extent_faults v b)) placed (subst (IsLeast least_block) are least))
+pub as_read : (v : Volume) (b : ℕ) (bytes block : List ℕ) (leaves records : List Leaf) → bytes ≡ block → leaves ≡ records → IsRead v b block records → IsRead v b bytes leaves
+as_read v b bytes block leaves records same are read = record { holds = same ∙ read.holds; sound = read.sound; are = are ∙ read.are }
 
+-- ---- what is wrong
 pub fails_size : (v : Volume) (b at : ℕ) (check : Check) → check ≡ InodeSize → at ≡ b → extent_faults v b ≡ [] → has_sound_size v b ≡ false → DataFailsFirst v b check at
 fails_size v b at check named placed sound bad =
     subst (λ (k : Check). DataFailsFirst v b k at) (sym named) (sound, subst (λ (n : ℕ). IsLeast n (inode_size_faults v b)) (sym placed) (size_bad v b bad))

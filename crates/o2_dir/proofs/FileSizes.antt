@@ -19,7 +19,7 @@ use Rattle.o2_model.specs.Checks.InodeSize.{is_link_size, is_file_size, is_size_
 use Rattle.o2_extent.specs.Maps.{has_cluster}
 use Rattle.o2_extent.specs.Readings.{leaf_of}
 use Rattle.o2_extent.specs.declared.leaf.Leaf.{Leaf}
-use Rattle.o2_dir.specs.FileData.{IsReadOf}
+use Rattle.o2_dir.specs.Fails.{IsRead}
 
 -- the records of the reader say the same as the definition's of a cluster
 any_of_records : (k : ℕ) (rs : List ExtentRec) → list_any (has_cluster k) (map leaf_of rs) ≡ list_any (maps_cluster k) rs
@@ -63,11 +63,11 @@ link_size_is n block d e leaves rs same long are =
     ∙ (ap (λ k. nat_lt 0 e.size && cond (has_fast_text e) (nat_lt e.size (k - 192)) (list_any (has_cluster 0) leaves)) long
     ∙ ap (λ (a : Bool). nat_lt 0 e.size && cond (has_fast_text e) (nat_lt e.size (block - 192)) a) (ap (list_any (has_cluster 0)) are ∙ any_of_records 0 rs))
 
-pub link_size : (v : Volume) (b : ℕ) (d : Dinode) (bytes : List ℕ) (leaves : List Leaf) → IsReadOf v b bytes leaves → length bytes ≡ block_size v → d ≡ dinode_of bytes → is_inline v b ≡ false → is_link_kind (kind v b) ≡ true
+pub link_size : (v : Volume) (b : ℕ) (d : Dinode) (bytes : List ℕ) (leaves : List Leaf) → IsRead v b bytes leaves → length bytes ≡ block_size v → d ≡ dinode_of bytes → is_inline v b ≡ false → is_link_kind (kind v b) ≡ true
     → (nat_lt 0 d.size && cond (has_fast_text d) (nat_lt d.size (length bytes - 192)) (list_any (has_cluster 0) leaves)) ≡ has_sound_size v b
 unfolding has_sound_size
 link_size v b d bytes leaves read long tells outside link = rw outside
-    (link_size_is (length bytes) (block_size v) d (dinode v b) leaves (leaf_records v b) (tells ∙ ap dinode_of read.block) long read.records
+    (link_size_is (length bytes) (block_size v) d (dinode v b) leaves (leaf_records v b) (tells ∙ ap dinode_of read.holds) long read.are
     ∙ sym (of_link v b (kind v b) link))
 
 pub file_size : (v : Volume) (b size : ℕ) → size ≡ (dinode v b).size → is_inline v b ≡ false → is_link_kind (kind v b) ≡ false → (is_file v b || is_link v b) ≡ true

@@ -1,5 +1,5 @@
 -- A directory whose entries stand in its dinode.
-use Rattle.std.proofs.Common.{◌≡◌, ℕ, ◌+◌, ◌-◌, ◌^◌, ◌≤◌, ◌/◌, filter, Bool, true, cond, ◌&&◌, List, [], ◌∷◌, flat_map, length, map, take, drop, refl, sym, ◌∙◌, ap, subst, arith, Option, None, Result}
+use Rattle.std.proofs.Common.{◌≡◌, ℕ, ◌+◌, ◌-◌, ◌^◌, ◌≤◌, Bool, true, cond, ◌&&◌, List, [], ◌∷◌, flat_map, length, map, take, drop, refl, sym, ◌∙◌, ap, subst, arith, Option, None, Result}
 use Rattle.std.specs.Prelude.{IfOk}
 use Rattle.std.specs.Result.{IfErr}
 use Rattle.std.proofs.lemmas.Result.{IfOk-weaker, IfErr-weaker}
@@ -10,8 +10,8 @@ use Rattle.o2_model.specs.Volume.{Volume, block_size, dinode}
 use Rattle.o2_model.specs.declared.check.Check.{Check}
 use Rattle.o2_model.specs.declared.check.Check.TheVariants as Checks
 use Rattle.o2_model.specs.Words.{IsLeast}
-use Rattle.o2_model.specs.Inodes.{is_inline, kind, leaf_records}
-use Rattle.o2_model.specs.Directories.{NamedEntry, DirBlock, dir_blocks, directory_entries, entries_in, entries_of_block, inline_block, mapped, is_written}
+use Rattle.o2_model.specs.Inodes.{is_inline, kind}
+use Rattle.o2_model.specs.Directories.{NamedEntry, DirBlock, dir_blocks, directory_entries, entries_in, entries_of_block, inline_block}
 use Rattle.o2_model.specs.Checks.InodeSize.{has_sound_size, is_inline_size, is_size_of_kind}
 use Rattle.o2_dir.specs.Blocks.{Keeps, blocks_in_dinode}
 use Rattle.o2_dir.specs.declared.reading.Reading.{Reading}
@@ -105,6 +105,6 @@ bad_told r reading d size bytes room kept test = IfErr-weaker r
     (λ fault. (check : Check) (b : ℕ) → fault ≡ Faults.Bad check b → (check ≡ Checks.DirBlock) × IsLeast b reading.faults.items)
     (λ fault. (check : Check) (b : ℕ) → fault ≡ Faults.Bad check b → (v : Volume) → length bytes ≡ 2 ^ v.geo.block_bits → IsInline v d size bytes → FailsFirst v d check b)
     (λ fault bad check b is v long h.
-      let first = bad check b is in
-      fails_blocks v d check b reading.faults.items first.0 h.sound (size_is v d size bytes long h ∙ test)
-        (faults_kept v d (blocks_in_dinode d size bytes) reading (blocks_are v d size bytes long h room) kept) first.1)
+    let first = bad check b is in
+    fails_blocks v d check b reading.faults.items first.0 h.sound (size_is v d size bytes long h ∙ test)
+    (faults_kept v d (blocks_in_dinode d size bytes) reading (blocks_are v d size bytes long h room) kept) first.1)

@@ -1,24 +1,17 @@
 -- A file or a link whose bytes are read, and what is wrong with one.
-use Rattle.std.specs.Prelude.{◌≡◌, ℕ, true, ◌||◌, List, [], map}
+use Rattle.std.specs.Prelude.{◌≡◌, ℕ, true, ◌||◌, []}
 use Rattle.o2_model.specs.declared.check.Check.{Check}
 use Rattle.o2_model.specs.declared.check.Check.TheVariants as check
 use Rattle.o2_model.specs.Words.{IsLeast}
 use Rattle.o2_model.specs.Volume.{Volume, is_valid}
-use Rattle.o2_model.specs.Inodes.{is_file, is_link, leaf_records}
+use Rattle.o2_model.specs.Inodes.{is_file, is_link}
 use Rattle.o2_model.specs.Checks.Extent.{extent_faults}
 use Rattle.o2_model.specs.Checks.InodeSize.{inode_size_faults}
-use Rattle.o2_extent.specs.Readings.{leaf_of}
-use Rattle.o2_extent.specs.declared.leaf.Leaf.{Leaf}
 
 -- a valid dinode of a file or a link
 pub record HasBytes (v : Volume) (b : ℕ) : Type 0 where
   pub valid : is_valid v b ≡ true
   pub kind : (is_file v b || is_link v b) ≡ true
-
--- these are the bytes of the dinode's block, and these the leaf records of its own list
-pub record IsReadOf (v : Volume) (b : ℕ) (bytes : List ℕ) (leaves : List Leaf) : Type 0 where
-  pub block : bytes ≡ v.at b
-  pub records : leaves ≡ map leaf_of (leaf_records v b)
 
 -- EXTENT and INODE_SIZE hold for the inode
 pub record IsSoundData (v : Volume) (b : ℕ) : Type 0 where

@@ -19,7 +19,7 @@ use o2_view::{View, ViewFault};
 
 /// Whether these bytes of block b are a valid dinode.
 #[tactic(auto, unfolding(o2_model::specs::Volume::is_valid))]
-fn is_valid_dinode(geo: &Geo, b: u64, dinode: &Dinode) -> bool
+pub fn is_valid_dinode(geo: &Geo, b: u64, dinode: &Dinode) -> bool
     requires { HasSizes geo.now }
     ensures { (I : Image) → dinode.now ≡ dinode_of ((volume_seen geo.now I).at b) → result ≡ is_valid (volume_seen geo.now I) b }
 {
@@ -36,7 +36,7 @@ fn is_valid_dinode(geo: &Geo, b: u64, dinode: &Dinode) -> bool
 fn is_of_file_or_link(dinode: &Dinode) -> bool
     ensures { result ≡ (is_file_kind (kind_of_mode dinode.now.mode) || is_link_kind (kind_of_mode dinode.now.mode)) }
 {
-    match Kind::of_mode(dinode.mode) {
+    match dinode.kind() {
         Some(Kind::File) => true,
         Some(Kind::Link) => true,
         _ => false,

@@ -46,5 +46,12 @@ pub fn entries<D: Disk, const N: usize>(
     if is_inline(&dinode) {
         return inlined(alloc, inode, dinode.size, found.block.as_slice());
     }
-    mapped(alloc, view, geo, inode, dinode.size, found.reading.leaves.as_slice())
+    mapped(
+        alloc,
+        view,
+        geo,
+        inode,
+        dinode.size,
+        found.reading.leaves.as_slice(),
+    )
 }

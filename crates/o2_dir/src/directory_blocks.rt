@@ -11,9 +11,9 @@ ghost use Rattle.o2_extent.specs.Readings.{Within};
 ghost use Rattle.o2_dir.specs.Blocks.{Keeps, block_at_place, places_of};
 
 use crate::blocks::read_places;
-use crate::parts::first;
+use crate::inline_directory::read_part;
 use crate::places::{places_within, put};
-use crate::reading::{Reading, add_block, start};
+use crate::reading::{Reading, start};
 use o2_disk::{Disk, NoMemory};
 use o2_extent::{Leaf, block_bytes, blocks_per_cluster, is_inline, read_inode, volume_blocks};
 use o2_model::Geo;
@@ -27,16 +27,14 @@ fn read_inline(alloc: Global, inode: u64, bytes: &[u8]) -> Result<Reading, NoMem
     requires most { length bytes.now ≤ 4096 }
     ensures { IfOk result (λ reading. (v : Volume) → bytes.now ≡ v.at inode → length bytes.now ≡ 2 ^ v.geo.block_bits → Keeps reading (inline_block v inode ∷ [])) }
 {
-    let mut reading = start(alloc);
     let size = read_dinode(bytes).size;
     let room = (bytes.len() - 200) as u64;
     if room < size {
+        let mut reading = start(alloc);
         put(&mut reading.faults, inode)?;
         return Ok(reading);
     }
-    let part = first(&bytes[0xc8..], size);
-    add_block(alloc, part, 0, inode, &mut reading)?;
-    Ok(reading)
+    read_part(alloc, inode, size, bytes)
 }
 
 /// Reads the blocks that the records map, those below so many bytes.

@@ -70,3 +70,52 @@ impl From<ReadFault> for DirFault {
         }
     }
 }
+
+/// Why a path led to no inode.
+#[derive(Clone, Copy, Debug, PartialEq, Eq, Error)]
+pub enum PathFault {
+    /// There is no memory for what was asked.
+    #[error("NoMemory")]
+    NoMemory,
+    /// A call of the device failed.
+    #[error("DeviceFault")]
+    DeviceFault,
+    /// A directory on the way fails this check at this block, the first that it fails, or the entry of a name there names no
+    /// valid dinode.
+    #[error("Bad")]
+    Bad { check: Check, block: u64 },
+    /// No live entry has a name of the path.
+    #[error("Absent")]
+    Absent,
+    /// An inode in the middle of the path is no directory.
+    #[error("WrongKind")]
+    WrongKind,
+}
+
+impl From<ViewFault> for PathFault {
+    ghost use Rattle.o2_dir.specs.Faults.{IsPathOfView};
+
+    ghost from_gives = { IsPathOfView };
+
+    fn from(fault: ViewFault) -> Self {
+        match fault {
+            ViewFault::NoMemory => PathFault::NoMemory,
+            ViewFault::DeviceFault => PathFault::DeviceFault,
+        }
+    }
+}
+
+impl From<DirFault> for PathFault {
+    ghost use Rattle.o2_dir.specs.Faults.{IsPathOfDir};
+
+    ghost from_gives = { IsPathOfDir };
+
+    fn from(fault: DirFault) -> Self {
+        match fault {
+            DirFault::NoMemory => PathFault::NoMemory,
+            DirFault::DeviceFault => PathFault::DeviceFault,
+            DirFault::Bad { check, block } => PathFault::Bad { check, block },
+            DirFault::Absent => PathFault::Absent,
+        }
+    }
+}

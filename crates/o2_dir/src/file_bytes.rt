@@ -10,12 +10,14 @@ ghost use Rattle.o2_model.specs.Contents.{byte_of, bytes_of};
 ghost use Rattle.o2_extent.specs.Seen.{LiesIn, volume_seen};
 ghost use Rattle.o2_extent.specs.Reads.{OnlyReads};
 ghost use Rattle.o2_extent.specs.Readings.{Within, leaf_of};
-ghost use Rattle.o2_dir.specs.FileData.{HasBytes, IsReadOf, IsSoundData, DataFailsFirst};
+ghost use Rattle.o2_dir.specs.Fails.{IsRead};
+ghost use Rattle.o2_dir.specs.FileData.{HasBytes, IsSoundData, DataFailsFirst};
 
 use crate::file_size::has_sound_size;
 use crate::parts::{behind, first};
+use crate::sound_inode::sound_inode;
 use o2_disk::Disk;
-use o2_extent::{Leaf, add_bytes, is_fast_link, is_inline, least, read_inode};
+use o2_extent::{Leaf, add_bytes, is_fast_link, is_inline};
 use o2_model::{Check, Geo};
 use o2_ondisk::read_dinode;
 use o2_view::{Bytes, ReadFault, View, ViewFault};
@@ -85,7 +87,7 @@ fn read_data<D: Disk, const N: usize>(
     requires geo { LiesIn geo.now view.old }
     requires long { 512 ≤ length bytes.now }
     requires within { Within geo.now leaves.now }
-    ensures bytes { IfOk result (λ out. (I : Image) → (view_state view.old).content ≡ Some I → (b : ℕ) → IsReadOf (volume_seen geo.now I) b bytes.now leaves.now
+    ensures bytes { IfOk result (λ out. (I : Image) → (view_state view.old).content ≡ Some I → (b : ℕ) → IsRead (volume_seen geo.now I) b bytes.now leaves.now
         → out.items ≡ take len (drop at (bytes_of (volume_seen geo.now I) b))) }
     ensures reads { OnlyReads view.old view.new }
     ensures fault { IsErrOf result ViewFault.DeviceFault → Rose (view_state view.old).faults (view_state view.new).faults }
@@ -122,13 +124,7 @@ pub fn read_bytes<D: Disk, const N: usize>(
     ensures reads { OnlyReads view.old view.new }
     ensures fault { IsErrOf result ReadFault.DeviceFault → Rose (view_state view.old).faults (view_state view.new).faults }
 {
-    let found = read_inode(alloc, view, geo, inode)?;
-    if let Some(block) = least(&found.reading.faults) {
-        return Err(ReadFault::Bad {
-            check: Check::Extent,
-            block,
-        });
-    }
+    let found = sound_inode(alloc, view, geo, inode)?;
     let bytes = found.block.as_slice();
     let leaves = found.reading.leaves.as_slice();
     if !has_sound_size(alloc, view, geo, inode, bytes, leaves)? {
@@ -140,3 +136,6 @@ pub fn read_bytes<D: Disk, const N: usize>(
     let out = read_data(alloc, view, geo, bytes, leaves, at, len)?;
     Ok(Bytes::from(out))
 }
+
+#[cfg(test)]
+mod tests;

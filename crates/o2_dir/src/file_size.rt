@@ -3,7 +3,6 @@ ghost use Rattle.std.specs.Prelude.{◌≡◌, ◌-◌, ◌*◌, ◌^◌, ◌≤
 ghost use Rattle.std.specs.List.{list_any};
 ghost use Rattle.o2_disk.specs.Image.{Image};
 ghost use Rattle.o2_disk.specs.Device.{Rose};
-ghost use Rattle.o2_ondisk.specs.Number.{number_at};
 ghost use Rattle.o2_ondisk.specs.Kinds.{kind_of_mode};
 ghost use Rattle.o2_view.specs.Views.{view_state, view_blocks};
 ghost use Rattle.o2_model.specs.Words.{among};
@@ -13,25 +12,16 @@ ghost use Rattle.o2_model.specs.Checks.InodeSize.{has_sound_size as is_sound};
 ghost use Rattle.o2_extent.specs.Maps.{has_cluster};
 ghost use Rattle.o2_extent.specs.Seen.{HasSizes, LiesIn, volume_seen};
 ghost use Rattle.o2_extent.specs.Reads.{OnlyReads};
-ghost use Rattle.o2_dir.specs.FileData.{IsReadOf};
+ghost use Rattle.o2_dir.specs.Fails.{IsRead};
 
+use crate::inline_directory::has_room;
 use crate::own_inodes::is_own;
 use o2_disk::Disk;
 use o2_extent::{Leaf, is_fast_link, is_inline};
 use o2_model::Geo;
-use o2_ondisk::{Dinode, Kind, read_dinode, u16_at};
+use o2_ondisk::{Dinode, Kind, read_dinode};
 use o2_view::{View, ViewFault};
 use std::alloc::Global;
-
-/// Whether so many bytes fit those that the dinode tells, and these its room.
-fn fits_inline(size: u64, bytes: &[u8]) -> bool
-    requires { 512 ≤ length bytes.now }
-    ensures { result ≡ (nat_le size (number_at 0xc0 2 bytes.now) && nat_le (number_at 0xc0 2 bytes.now) (length bytes.now - 200)) }
-{
-    let count = u64::from(u16_at(bytes, 0xc0));
-    let room = (bytes.len() - 200) as u64;
-    size <= count && count <= room
-}
 
 /// Whether a record is about the first cluster.
 fn maps_first(leaves: &[Leaf]) -> bool
@@ -94,7 +84,7 @@ fn is_file_size<D: Disk, const N: usize>(
 fn is_of_link(dinode: &Dinode) -> bool
     ensures { result ≡ is_link_kind (kind_of_mode dinode.now.mode) }
 {
-    match Kind::of_mode(dinode.mode) {
+    match dinode.kind() {
         Some(Kind::Link) => true,
         _ => false,
     }
@@ -113,14 +103,14 @@ pub fn has_sound_size<D: Disk, const N: usize>(
     requires sysdir { geo.now.sysdir < view_blocks view.old }
     requires size { length bytes.now ≡ 2 ^ geo.now.block_bits }
     requires long { 512 ≤ length bytes.now }
-    ensures sound { IfOk result (λ sound. (I : Image) → (view_state view.old).content ≡ Some I → IsReadOf (volume_seen geo.now I) inode bytes.now leaves.now
+    ensures sound { IfOk result (λ sound. (I : Image) → (view_state view.old).content ≡ Some I → IsRead (volume_seen geo.now I) inode bytes.now leaves.now
         → (is_file (volume_seen geo.now I) inode || is_link (volume_seen geo.now I) inode) ≡ true → sound ≡ is_sound (volume_seen geo.now I) inode) }
     ensures reads { OnlyReads view.old view.new }
     ensures fault { IsErrOf result ViewFault.DeviceFault → Rose (view_state view.old).faults (view_state view.new).faults }
 {
     let dinode = read_dinode(bytes);
     if is_inline(&dinode) {
-        return Ok(fits_inline(dinode.size, bytes));
+        return Ok(has_room(dinode.size, bytes));
     }
     if is_of_link(&dinode) {
         return Ok(has_text(&dinode, bytes, leaves));

@@ -16,7 +16,7 @@ use o2_ondisk::u16_at;
 use std::alloc::Global;
 
 /// Whether so many bytes fit those that the dinode tells, and these its room.
-fn has_room(size: u64, bytes: &[u8]) -> bool
+pub fn has_room(size: u64, bytes: &[u8]) -> bool
     requires { 512 ≤ length bytes.now }
     ensures test { result ≡ (nat_le size (number_at 0xc0 2 bytes.now) && nat_le (number_at 0xc0 2 bytes.now) (length bytes.now - 200)) }
     ensures fits { result ≡ true → 200 + size ≤ length bytes.now }
@@ -38,7 +38,7 @@ fn inline_part(bytes: &[u8], size: u64) -> &[u8]
 }
 
 /// Reads the entries among the inline bytes of a dinode.
-fn read_part(alloc: Global, inode: u64, size: u64, bytes: &[u8]) -> Result<Reading, NoMemory>
+pub fn read_part(alloc: Global, inode: u64, size: u64, bytes: &[u8]) -> Result<Reading, NoMemory>
     requires long { 200 + size ≤ length bytes.now }
     requires most { length bytes.now ≤ 4096 }
     ensures { IfOk result (λ reading. Keeps reading (blocks_in_dinode inode size bytes.now)) }

@@ -1,4 +1,4 @@
-//! The entries of a directory.
+//! Directories: their entries, names and paths. And the bytes of files, whose size is judged by the system directory's entries.
 #![tactic(auto)]
 
 mod blocks;
@@ -13,16 +13,21 @@ mod file_bytes;
 mod file_size;
 mod inline_directory;
 mod mapped_directory;
+mod names;
 mod own_inodes;
 mod parts;
+mod path_step;
 mod path_text;
 mod places;
 mod reading;
+mod route;
 mod sound_inode;
 
 pub use data_inode::has_bytes;
 pub use directory::entries;
 pub use entry::{Entries, Entry};
-pub use fault::DirFault;
+pub use fault::{DirFault, PathFault};
 pub use file_bytes::read_bytes;
+pub use names::{look_up, system_file};
 pub use path_text::{PathText, is_path};
+pub use route::path;

@@ -4,3 +4,16 @@ pub mod SuperSector
 pub mod Entries
 pub mod Readings
 pub mod Looks
+pub mod TreeEnds
+pub mod SameTree
+pub mod SameGroups
+pub mod ChainEnds
+pub mod SameEntries
+pub mod Rising
+pub mod Failing
+pub mod SameInodes
+pub mod NothingFails
+pub mod Replays
+pub mod LogReadings
+pub mod SameContents
+pub mod SameAllocators

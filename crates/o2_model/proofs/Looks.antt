@@ -1,5 +1,5 @@
 -- No block is looked at twice by the reading of an extent tree, so that fewer are than the volume has.
-use Rattle.std.proofs.Common.{◌≡◌, inl, inr, ⊎_elim, ℕ, zero, suc, ◌+◌, ◌<◌, ◌≤◌, true, false, ◌||◌, ◌==◌, eqb, List, [], ◌∷◌, ◌++◌, length, refl, sym, ◌∙◌, ap, arith}
+use Rattle.std.proofs.Common.{◌≡◌, inl, inr, ⊎_elim, ℕ, zero, suc, ◌+◌, ◌<◌, ◌≤◌, true, false, ◌||◌, ◌==◌, eqb, List, [], ◌∷◌, length, sym, ◌∙◌, arith}
 use Rattle.std.specs.List.{list_any, IsDistinct}
 use Rattle.std.specs.Cmp.{nat_eq_equiv}
 use Rattle.std.proofs.lemmas.Bool.{cases_Bool, or_cases, eqb-true, false≢true}
@@ -8,9 +8,9 @@ use Rattle.std.proofs.lemmas.List.Folds.{list_any-append}
 use Rattle.std.proofs.lemmas.Map.Keys.{IsDistinct-push}
 use Rattle.std.proofs.lemmas.Map.Steps.{length-le_from_distinct_below}
 use Rattle.o2_ondisk.specs.declared.extent_rec.ExtentRec.{ExtentRec}
-use Rattle.o2_model.specs.Words.{among, push, Apart}
-use Rattle.o2_model.specs.Volume.{Volume, blocks, is_in_range}
-use Rattle.o2_model.specs.Extents.{Extents, leaf_clusters, list_in_block, with_leaf, with_seen, with_block, with_fault, end_of, is_sound_header, is_extent_block, is_sound_leaf, names_new_block, most_in_block, with_met, records_in_block, read_records, nothing_read, extent_list}
+use Rattle.o2_model.specs.Words.{push, Apart}
+use Rattle.o2_model.specs.Volume.{Volume, blocks}
+use Rattle.o2_model.specs.Extents.{Extents, leaf_clusters, with_leaf, with_seen, end_of, is_sound_header, is_extent_block, is_sound_leaf, names_new_block, with_met, records_in_block, read_records, nothing_read, extent_list}
 use Rattle.o2_model.specs.Inodes.{extents, has_list, most_flags, most_in_dinode}
 use Rattle.o2_model.proofs.Readings.{met_seen}
 

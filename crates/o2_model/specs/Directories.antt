@@ -143,3 +143,7 @@ first_named v d name = find (is_named name) (directory_entries v d)
 -- the volume's own inodes: the system directory, and those that its live entries but the dots name
 unfoldable pub own_inodes : Volume → List ℕ
 own_inodes v = v.geo.sysdir ∷ map (λ e. e.inode) (filter (λ e. not (is_dot e)) (directory_entries v v.geo.sysdir))
+
+-- the live entries of the directory but `.` and `..`, in order
+abbrev pub named_entries : Volume → ℕ → List Entry
+named_entries v d = filter (λ e. not (is_dot e)) (directory_entries v d)

@@ -1,5 +1,5 @@
 -- The tree of extents under an extent list.
-use Rattle.std.specs.Prelude.{ℕ, zero, suc, ◌+◌, ◌-◌, ◌*◌, ◌/◌, ◌%◌, ◌^◌, Bool, ◌&&◌, not, ◌==◌, nat_lt, nat_le, List, [], ◌∷◌, drop, filter, flat_map, fold, if◌then◌else◌}
+use Rattle.std.specs.Prelude.{ℕ, zero, suc, ◌+◌, ◌-◌, ◌/◌, ◌%◌, ◌^◌, Bool, ◌&&◌, not, ◌==◌, nat_lt, nat_le, List, [], ◌∷◌, drop, filter, flat_map, fold, if◌then◌else◌}
 use Rattle.o2_ondisk.specs.ExtentBlocks.{extent_block_of}
 use Rattle.o2_ondisk.specs.ExtentListHeaders.{extent_list_header_of}
 use Rattle.o2_ondisk.specs.ExtentRecs.{extent_rec_of}

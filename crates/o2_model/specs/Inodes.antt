@@ -1,5 +1,5 @@
 -- What a dinode says of its inode: the kind, where its data is, and its extents.
-use Rattle.std.specs.Prelude.{ℕ, ◌-◌, ◌/◌, Bool, true, false, ◌&&◌, not, ◌==◌, List, [], ◌∷◌, map, flat_map, Option, Some, None, if◌then◌else◌}
+use Rattle.std.specs.Prelude.{ℕ, ◌-◌, ◌/◌, Bool, true, false, ◌&&◌, not, ◌==◌, List, [], ◌∷◌, flat_map, Option, Some, if◌then◌else◌}
 use Rattle.o2_ondisk.specs.Bits.{has_bits}
 use Rattle.o2_ondisk.specs.Kinds.{kind_of_mode}
 use Rattle.o2_ondisk.specs.declared.dinode.Dinode.{Dinode}

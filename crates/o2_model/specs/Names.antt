@@ -1,7 +1,9 @@
--- What checks and oddities print.
+-- What checks, oddities and the parts of a journal print.
 use Rattle.std.specs.Prelude.{ℕ, List, codes}
 use Rattle.o2_model.specs.declared.check.Check.{Check}
 use Rattle.o2_model.specs.declared.check.Check.TheVariants as check
+use Rattle.o2_model.specs.declared.journal_part.JournalPart.{JournalPart}
+use Rattle.o2_model.specs.declared.journal_part.JournalPart.TheVariants as part
 use Rattle.o2_model.specs.declared.oddity.Oddity.{Oddity}
 use Rattle.o2_model.specs.declared.oddity.Oddity.TheVariants as oddity
 
@@ -64,3 +66,8 @@ oddity_text oddity.Clusters = codes "clusters"
 oddity_text oddity.DiscontiguousGroup = codes "discontiguous group"
 oddity_text oddity.Attributes = codes "attributes"
 oddity_text oddity.DioOrphan = codes "dio orphan"
+
+abbrev pub journal_part_text : JournalPart → List ℕ
+journal_part_text part.Extents = codes "extents"
+journal_part_text part.Superblock = codes "superblock"
+journal_part_text part.Features = codes "features"

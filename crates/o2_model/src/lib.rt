@@ -1,18 +1,46 @@
 //! What a volume is: the definitions over whole images that every contract above cites, and their laws.
 #![tactic(auto)]
 
+mod allocator;
+mod case_laws;
 mod check;
+mod claim;
 mod entry_laws;
 mod extent_laws;
+mod frame_laws;
 mod geo;
+mod journal_part;
 mod laws;
+mod log_laws;
 mod oddity;
+mod replay_laws;
+mod system_file;
+mod walk_laws;
 
+pub use allocator::{Allocator, BitUse, Group};
+pub use case_laws::{
+    bits_on_cases, hashes_on_cases, names_on_cases, orders_on_cases, revokes_on_cases,
+};
 pub use check::Check;
+pub use claim::{Claim, Owner};
 pub use entry_laws::entries_fill_their_bytes;
 pub use extent_laws::{
     few_blocks_are_looked_at, leaf_records_are_those_below, other_blocks_keep_extents,
 };
+pub use frame_laws::{
+    other_blocks_keep_contents, other_blocks_keep_entries, other_blocks_keep_groups,
+    other_blocks_keep_system_files, superblock_tells_volume, tables_tell_inodes_and_tree,
+};
 pub use geo::Geo;
+pub use journal_part::JournalPart;
 pub use laws::{geometry_tells_block_bits, label_alone_changes};
+pub use log_laws::log_is_what_its_blocks_spell;
 pub use oddity::Oddity;
+pub use replay_laws::{
+    clean_image_has_no_variant, consistent_image_stays, each_check_holds, replay_keeps_length,
+    stable_image_can_be_replayed,
+};
+pub use system_file::{SlotFile, SystemFile};
+pub use walk_laws::{
+    chains_end, no_directory_is_entered_twice, no_group_is_walked_twice, tree_walk_ends,
+};

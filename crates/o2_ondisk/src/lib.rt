@@ -1,50 +1,196 @@
 //! The structures of the volume as bytes: where each field stands, and its value.
 #![tactic(auto)]
 
+mod chain_list_header;
+mod chain_rec;
 mod dinode;
 mod dir_entry;
 mod dir_trailer;
+mod dx_entry;
+mod dx_leaf;
+mod dx_list_header;
+mod dx_root;
 mod extent_block;
 mod extent_list_header;
 mod extent_rec;
 mod flags;
+mod group_desc;
+mod journal_super;
+mod journal_tag;
 mod kind;
 mod layout;
+mod local_alloc_header;
+mod log_header;
 mod number;
+mod refcount_block;
+mod refcount_list_header;
+mod refcount_rec;
 mod role_data;
 mod signature;
+mod slot_entry;
 mod superblock;
 mod tables;
+mod truncate_log_header;
+mod truncate_rec;
 
-pub use dinode::{DINODE, DINODE_SIZE, Dinode, read_dinode, write_dinode};
-pub use dir_entry::{DIR_ENTRY, DIR_ENTRY_SIZE, DirEntry, read_dir_entry, write_dir_entry};
-pub use dir_trailer::{
-    DIR_TRAILER, DIR_TRAILER_SIZE, DirTrailer, read_dir_trailer, write_dir_trailer,
-};
-pub use extent_block::{
-    EXTENT_BLOCK, EXTENT_BLOCK_SIZE, ExtentBlock, read_extent_block, write_extent_block,
-};
-pub use extent_list_header::{
-    EXTENT_LIST_HEADER, EXTENT_LIST_HEADER_SIZE, ExtentListHeader, read_extent_list_header,
-    write_extent_list_header,
-};
-pub use extent_rec::{
-    EXTENT_REC, EXTENT_REC_SIZE, ExtentRec, ExtentSize, read_extent_rec, write_extent_rec,
-};
-pub use flags::{DynFeatures, ExtentFlags, InodeFlags, JournalFlags, flags_are_as_told};
+pub use chain_list_header::CHAIN_LIST_HEADER;
+pub use chain_list_header::CHAIN_LIST_HEADER_SIZE;
+pub use chain_list_header::ChainListHeader;
+pub use chain_list_header::read_chain_list_header;
+pub use chain_list_header::write_chain_list_header;
+pub use chain_rec::CHAIN_REC;
+pub use chain_rec::CHAIN_REC_SIZE;
+pub use chain_rec::ChainRec;
+pub use chain_rec::read_chain_rec;
+pub use chain_rec::write_chain_rec;
+pub use dinode::DINODE;
+pub use dinode::DINODE_SIZE;
+pub use dinode::Dinode;
+pub use dinode::read_dinode;
+pub use dinode::write_dinode;
+pub use dir_entry::DIR_ENTRY;
+pub use dir_entry::DIR_ENTRY_SIZE;
+pub use dir_entry::DirEntry;
+pub use dir_entry::read_dir_entry;
+pub use dir_entry::write_dir_entry;
+pub use dir_trailer::DIR_TRAILER;
+pub use dir_trailer::DIR_TRAILER_SIZE;
+pub use dir_trailer::DirTrailer;
+pub use dir_trailer::read_dir_trailer;
+pub use dir_trailer::write_dir_trailer;
+pub use dx_entry::DX_ENTRY;
+pub use dx_entry::DX_ENTRY_SIZE;
+pub use dx_entry::DxEntry;
+pub use dx_entry::read_dx_entry;
+pub use dx_entry::write_dx_entry;
+pub use dx_leaf::DX_LEAF;
+pub use dx_leaf::DX_LEAF_SIZE;
+pub use dx_leaf::DxLeaf;
+pub use dx_leaf::read_dx_leaf;
+pub use dx_leaf::write_dx_leaf;
+pub use dx_list_header::DX_LIST_HEADER;
+pub use dx_list_header::DX_LIST_HEADER_SIZE;
+pub use dx_list_header::DxListHeader;
+pub use dx_list_header::read_dx_list_header;
+pub use dx_list_header::write_dx_list_header;
+pub use dx_root::DX_ROOT;
+pub use dx_root::DX_ROOT_SIZE;
+pub use dx_root::DxRoot;
+pub use dx_root::read_dx_root;
+pub use dx_root::write_dx_root;
+pub use extent_block::EXTENT_BLOCK;
+pub use extent_block::EXTENT_BLOCK_SIZE;
+pub use extent_block::ExtentBlock;
+pub use extent_block::read_extent_block;
+pub use extent_block::write_extent_block;
+pub use extent_list_header::EXTENT_LIST_HEADER;
+pub use extent_list_header::EXTENT_LIST_HEADER_SIZE;
+pub use extent_list_header::ExtentListHeader;
+pub use extent_list_header::read_extent_list_header;
+pub use extent_list_header::write_extent_list_header;
+pub use extent_rec::EXTENT_REC;
+pub use extent_rec::EXTENT_REC_SIZE;
+pub use extent_rec::ExtentRec;
+pub use extent_rec::ExtentSize;
+pub use extent_rec::read_extent_rec;
+pub use extent_rec::write_extent_rec;
+pub use flags::DynFeatures;
+pub use flags::ExtentFlags;
+pub use flags::InodeFlags;
+pub use flags::JournalFlags;
+pub use flags::flags_are_as_told;
+pub use group_desc::GROUP_DESC;
+pub use group_desc::GROUP_DESC_SIZE;
+pub use group_desc::GroupDesc;
+pub use group_desc::read_group_desc;
+pub use group_desc::write_group_desc;
+pub use journal_super::JOURNAL_SUPER;
+pub use journal_super::JOURNAL_SUPER_SIZE;
+pub use journal_super::JournalSuper;
+pub use journal_super::read_journal_super;
+pub use journal_super::write_journal_super;
+pub use journal_tag::JOURNAL_TAG;
+pub use journal_tag::JOURNAL_TAG_SIZE;
+pub use journal_tag::JournalTag;
+pub use journal_tag::read_journal_tag;
+pub use journal_tag::write_journal_tag;
 pub use kind::Kind;
-pub use layout::{
-    Field, Layout, array_at, numbers_tell_bytes, put_array, put_big_numbers, put_bytes,
-    put_numbers, tested_fields_are_apart,
-};
-pub use number::{
-    big_u16_at, big_u32_at, big_u64_at, u8_at, u16_at, u32_at, u64_at, wide8, wide16, wide32,
-    wide64,
-};
+pub use layout::Field;
+pub use layout::Layout;
+pub use layout::array_at;
+pub use layout::numbers_tell_bytes;
+pub use layout::put_array;
+pub use layout::put_big_numbers;
+pub use layout::put_bytes;
+pub use layout::put_numbers;
+pub use layout::tested_fields_are_apart;
+pub use local_alloc_header::LOCAL_ALLOC_HEADER;
+pub use local_alloc_header::LOCAL_ALLOC_HEADER_SIZE;
+pub use local_alloc_header::LocalAllocHeader;
+pub use local_alloc_header::read_local_alloc_header;
+pub use local_alloc_header::write_local_alloc_header;
+pub use log_header::LOG_HEADER;
+pub use log_header::LOG_HEADER_SIZE;
+pub use log_header::LogHeader;
+pub use log_header::read_log_header;
+pub use log_header::write_log_header;
+pub use number::big_u16_at;
+pub use number::big_u32_at;
+pub use number::big_u64_at;
+pub use number::u8_at;
+pub use number::u16_at;
+pub use number::u32_at;
+pub use number::u64_at;
+pub use number::wide8;
+pub use number::wide16;
+pub use number::wide32;
+pub use number::wide64;
+pub use refcount_block::REFCOUNT_BLOCK;
+pub use refcount_block::REFCOUNT_BLOCK_SIZE;
+pub use refcount_block::RefcountBlock;
+pub use refcount_block::read_refcount_block;
+pub use refcount_block::write_refcount_block;
+pub use refcount_list_header::REFCOUNT_LIST_HEADER;
+pub use refcount_list_header::REFCOUNT_LIST_HEADER_SIZE;
+pub use refcount_list_header::RefcountListHeader;
+pub use refcount_list_header::read_refcount_list_header;
+pub use refcount_list_header::write_refcount_list_header;
+pub use refcount_rec::REFCOUNT_REC;
+pub use refcount_rec::REFCOUNT_REC_SIZE;
+pub use refcount_rec::RefcountRec;
+pub use refcount_rec::read_refcount_rec;
+pub use refcount_rec::write_refcount_rec;
 pub use role_data::RoleData;
-pub use signature::{Signature, signatures_are_letters};
-pub use superblock::{
-    CLUSTER_INFO_AT, DxSeed, LABEL_AT, SUPER, SUPER_AT, SUPER_SIZE, Super, UUID_AT,
-    fields_are_apart, fields_lie_in_first_sector, read_super, write_label, write_super,
-};
-pub use tables::{sizes_are_as_told, tables_are_apart, tables_are_as_told};
+pub use signature::Signature;
+pub use signature::signatures_are_letters;
+pub use slot_entry::SLOT_ENTRY;
+pub use slot_entry::SLOT_ENTRY_SIZE;
+pub use slot_entry::SlotEntry;
+pub use slot_entry::read_slot_entry;
+pub use slot_entry::write_slot_entry;
+pub use superblock::CLUSTER_INFO_AT;
+pub use superblock::DxSeed;
+pub use superblock::LABEL_AT;
+pub use superblock::SUPER;
+pub use superblock::SUPER_AT;
+pub use superblock::SUPER_SIZE;
+pub use superblock::Super;
+pub use superblock::UUID_AT;
+pub use superblock::fields_are_apart;
+pub use superblock::fields_lie_in_first_sector;
+pub use superblock::read_super;
+pub use superblock::write_label;
+pub use superblock::write_super;
+pub use tables::sizes_are_as_told;
+pub use tables::tables_are_apart;
+pub use tables::tables_are_as_told;
+pub use truncate_log_header::TRUNCATE_LOG_HEADER;
+pub use truncate_log_header::TRUNCATE_LOG_HEADER_SIZE;
+pub use truncate_log_header::TruncateLogHeader;
+pub use truncate_log_header::read_truncate_log_header;
+pub use truncate_log_header::write_truncate_log_header;
+pub use truncate_rec::TRUNCATE_REC;
+pub use truncate_rec::TRUNCATE_REC_SIZE;
+pub use truncate_rec::TruncateRec;
+pub use truncate_rec::read_truncate_rec;
+pub use truncate_rec::write_truncate_rec;

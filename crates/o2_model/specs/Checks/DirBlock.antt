@@ -1,5 +1,5 @@
 -- DIR_BLOCK, at the directory's block.
-use Rattle.std.specs.Prelude.{ℕ, Bool, false, ◌&&◌, ◌||◌, not, ◌==◌, List, [], ◌∷◌, codes, bytes_eq}
+use Rattle.std.specs.Prelude.{ℕ, Bool, false, ◌&&◌, ◌||◌, not, ◌==◌, List, ◌∷◌, codes, bytes_eq}
 use Rattle.std.specs.Option.{option_map_or}
 use Rattle.o2_model.specs.Words.{fails_at}
 use Rattle.o2_model.specs.Volume.{Volume}

@@ -11,23 +11,23 @@ pub returns-then-is_inline-clause-bytes : goal.returns-then-is_inline-clause-byt
 returns-then-is_inline-clause-bytes g c I told b read =
     let v = volume_seen c.args.geo.now I in
     let bytes = c.args.bytes.now in
-    let inside = inline_told bytes (v.at b) _ _ _ read.block c.read_dinode-dinode.ensures c.is_inline.ensures c.if-is_inline.true in
-    inline_part v b c.read_dinode-dinode.result.size c.args.at c.args.len bytes _ _ inside read.block (size_told_of bytes (v.at b) _ read.block c.read_dinode-dinode.ensures) (take_rest bytes 0xc8) c.in_ok-copy_part.ensures
+    let inside = inline_told bytes (v.at b) _ _ _ read.holds c.read_dinode-dinode.ensures c.is_inline.ensures c.if-is_inline.true in
+    inline_part v b c.read_dinode-dinode.result.size c.args.at c.args.len bytes _ _ inside read.holds (size_told_of bytes (v.at b) _ read.holds c.read_dinode-dinode.ensures) (take_rest bytes 0xc8) c.in_ok-copy_part.ensures
 
 pub returns-then-is_fast_link-clause-bytes : goal.returns-then-is_fast_link-clause-bytes
 returns-then-is_fast_link-clause-bytes g c I told b read =
     let v = volume_seen c.args.geo.now I in
     let bytes = c.args.bytes.now in
-    let outside = inline_told bytes (v.at b) _ _ _ read.block c.read_dinode-dinode.ensures c.is_inline.ensures c.if-is_inline.false in
-    let fast = fast_told bytes (v.at b) _ _ _ read.block c.read_dinode-dinode.ensures c.is_fast_link.ensures c.if-is_fast_link.true in
-    fast_part v b c.read_dinode-dinode.result.size c.args.at c.args.len bytes _ _ outside fast read.block (size_told_of bytes (v.at b) _ read.block c.read_dinode-dinode.ensures) (take_rest bytes 0xc0) c.in_ok-copy_part-2.ensures
+    let outside = inline_told bytes (v.at b) _ _ _ read.holds c.read_dinode-dinode.ensures c.is_inline.ensures c.if-is_inline.false in
+    let fast = fast_told bytes (v.at b) _ _ _ read.holds c.read_dinode-dinode.ensures c.is_fast_link.ensures c.if-is_fast_link.true in
+    fast_part v b c.read_dinode-dinode.result.size c.args.at c.args.len bytes _ _ outside fast read.holds (size_told_of bytes (v.at b) _ read.holds c.read_dinode-dinode.ensures) (take_rest bytes 0xc0) c.in_ok-copy_part-2.ensures
 
 pub returns-clause-bytes : goal.returns-clause-bytes
 returns-clause-bytes g c = IfOk-weaker c.read_mapped.result _ _
     (λ out is I told b read.
     let v = volume_seen c.args.geo.now I in
     let bytes = c.args.bytes.now in
-    let outside = inline_told bytes (v.at b) _ _ _ read.block c.read_dinode-dinode.ensures c.is_inline.ensures c.if-is_inline.false in
-    let slow = fast_told bytes (v.at b) _ _ _ read.block c.read_dinode-dinode.ensures c.is_fast_link.ensures c.if-is_fast_link.false in
-    mapped_part v b c.read_dinode-dinode.result.size c.args.at c.args.len out.items outside slow (size_told_of bytes (v.at b) _ read.block c.read_dinode-dinode.ensures) (is I told (leaf_records v b) read.records))
+    let outside = inline_told bytes (v.at b) _ _ _ read.holds c.read_dinode-dinode.ensures c.is_inline.ensures c.if-is_inline.false in
+    let slow = fast_told bytes (v.at b) _ _ _ read.holds c.read_dinode-dinode.ensures c.is_fast_link.ensures c.if-is_fast_link.false in
+    mapped_part v b c.read_dinode-dinode.result.size c.args.at c.args.len out.items outside slow (size_told_of bytes (v.at b) _ read.holds c.read_dinode-dinode.ensures) (is I told (leaf_records v b) read.are))
     c.read_mapped.ensures.bytes

@@ -1,0 +1,97 @@
+// One step of a path.
+ghost use Rattle.std.specs.Prelude.{◌≡◌, ◌^◌, ◌<◌, ◌≤◌, ℕ, length, true, false, Some, IfOk, IsErrOf};
+ghost use Rattle.std.specs.Result.{IfErr};
+ghost use Rattle.o2_disk.specs.Image.{Image};
+ghost use Rattle.o2_disk.specs.Device.{Rose};
+ghost use Rattle.o2_view.specs.Views.{view_state, view_blocks};
+ghost use Rattle.o2_model.specs.declared.check.Check.{Check};
+ghost use Rattle.o2_model.specs.Volume.{is_valid};
+ghost use Rattle.o2_model.specs.Inodes.{is_directory};
+ghost use Rattle.o2_model.specs.Directories.{Entry as Live};
+ghost use Rattle.o2_extent.specs.Seen.{LiesIn, volume_seen};
+ghost use Rattle.o2_extent.specs.Reads.{OnlyReads};
+ghost use Rattle.o2_dir.specs.Paths.{StepsTo, Lacks, FailsAt};
+
+use crate::PathFault;
+use crate::data_inode::is_valid_dinode;
+use crate::names::look_up;
+use o2_disk::Disk;
+use o2_extent::{block_bytes, volume_blocks};
+use o2_model::{Check, Geo};
+use o2_ondisk::{Dinode, Kind, read_dinode};
+use o2_view::{View, ViewFault};
+use std::alloc::Global;
+
+/// Whether the dinode at block `inode` is a directory's.
+#[tactic(auto, unfolding(o2_model::specs::Inodes::is_directory))]
+pub fn is_directory_at<D: Disk, const N: usize>(
+    view: &mut View<'_, D, N>,
+    geo: &Geo,
+    inode: u64,
+) -> Result<bool, ViewFault>
+    requires geo { LiesIn geo.now view.old }
+    requires inode { inode < view_blocks view.old }
+    ensures is { IfOk result (λ is. (I : Image) → (view_state view.old).content ≡ Some I → is ≡ is_directory (volume_seen geo.now I) inode) }
+    ensures reads { OnlyReads view.old view.new }
+    ensures fault { IsErrOf result ViewFault.DeviceFault → Rose (view_state view.old).faults (view_state view.new).faults }
+{
+    let _bytes = block_bytes(geo);
+    let block = view.block(inode)?;
+    match read_dinode(block.as_slice()).kind() {
+        Some(Kind::Directory) => Ok(true),
+        _ => Ok(false),
+    }
+}
+
+/// Whether block `b` is a valid dinode of the volume. Any number may be asked.
+pub fn is_valid_at<D: Disk, const N: usize>(
+    view: &mut View<'_, D, N>,
+    geo: &Geo,
+    b: u64,
+) -> Result<bool, ViewFault>
+    requires geo { LiesIn geo.now view.old }
+    ensures is { IfOk result (λ is. (I : Image) → (view_state view.old).content ≡ Some I → is ≡ is_valid (volume_seen geo.now I) b) }
+    ensures inside { IfOk result (λ is. is ≡ true → b < view_blocks view.old) }
+    ensures reads { OnlyReads view.old view.new }
+    ensures fault { IsErrOf result ViewFault.DeviceFault → Rose (view_state view.old).faults (view_state view.new).faults }
+{
+    if volume_blocks(geo) <= b {
+        return Ok(false);
+    }
+    let _bytes = block_bytes(geo);
+    let block = view.block(b)?;
+    let dinode = read_dinode(block.as_slice());
+    Ok(is_valid_dinode(geo, b, &dinode))
+}
+
+/// The inode that the name of a path leads to from the inode before.
+pub fn step<D: Disk, const N: usize>(
+    alloc: Global,
+    view: &mut View<'_, D, N>,
+    geo: &Geo,
+    inode: u64,
+    name: &[u8],
+) -> Result<u64, PathFault>
+    requires geo { LiesIn geo.now view.old }
+    requires inode { inode < view_blocks view.old }
+    ensures to { IfOk result (λ i. (I : Image) → (view_state view.old).content ≡ Some I → (e : Live) × StepsTo (volume_seen geo.now I) inode name.now e × (i ≡ e.inode)) }
+    ensures inside { IfOk result (λ i. i < view_blocks view.old) }
+    ensures absent { IsErrOf result PathFault.Absent → (I : Image) → (view_state view.old).content ≡ Some I → Lacks (volume_seen geo.now I) inode name.now }
+    ensures kind { IsErrOf result PathFault.WrongKind → (I : Image) → (view_state view.old).content ≡ Some I → is_directory (volume_seen geo.now I) inode ≡ false }
+    ensures bad { IfErr result (λ fault. (check : Check) (b : ℕ) → fault ≡ PathFault.Bad check b → (I : Image) → (view_state view.old).content ≡ Some I
+        → FailsAt check b (volume_seen geo.now I) inode name.now) }
+    ensures reads { OnlyReads view.old view.new }
+    ensures fault { IsErrOf result PathFault.DeviceFault → Rose (view_state view.old).faults (view_state view.new).faults }
+{
+    if !is_directory_at(view, geo, inode)? {
+        return Err(PathFault::WrongKind);
+    }
+    let entry = look_up(alloc, view, geo, inode, name)?;
+    if !is_valid_at(view, geo, entry.inode)? {
+        return Err(PathFault::Bad {
+            check: Check::DirentInode,
+            block: entry.block,
+        });
+    }
+    Ok(entry.inode)
+}

@@ -1,0 +1,94 @@
+-- A list that strictly rises and has the same numbers is the list in order.
+use Rattle.std.proofs.Common.{◌≡◌, inl, inr, eqb, ℕ, Bool, true, false, cond, ◌||◌, ◌&&◌, List, [], ◌∷◌, map, refl, sym, ◌∙◌, ap, subst, Option, Some, None}
+use Rattle.std.specs.List.{list_any, AllByRecursion, dedup, dedup_from}
+use Rattle.std.specs.List.Sorted.{IsStrictlySortedBy, IsSorted, IsPermutation}
+use Rattle.std.proofs.lemmas.List.Sorted.{list_any-IsPermutation}
+use Rattle.std.proofs.lemmas.Map.Keys.{sorted_from_strictly_increasing, IsStrictlyIncreasing-dedup}
+use Rattle.std.specs.FinMap as finite
+use Rattle.std.specs.FinMap.Entries.{below_all}
+use Rattle.std.specs.declared.cmp.Ordering.TheVariants.{Less}
+use Rattle.std.specs.Ordering.{nat_cmp, eq_by_cmp, is_lt, is_eq}
+use Rattle.std.specs.Cmp.{nat_cmp_total, tied_itself}
+use lib.Dec.{T}
+use Rattle.std.proofs.lemmas.Bool.{cases_Bool, eqb-true}
+use Rattle.o2_model.specs.Orders.{rising}
+
+abbrev pub marks : List ℕ → List (ℕ × Unit {0})
+marks ns = map (λ n. (n, tt {0})) ns
+
+either : (a b : Bool) (o : Option (Unit {0})) → o ≡ cond b (Some (tt {0})) None → cond a (Some (tt {0})) o ≡ cond (a || b) (Some (tt {0})) None
+either true b o h = refl
+either false b o h = h
+
+keys-marks : (ns : List ℕ) → map (λ e. e.0) (marks ns) ≡ ns
+keys-marks [] = refl
+keys-marks (n ∷ ns) = ap (λ x. n ∷ x) (keys-marks ns)
+
+find-marks : (ns : List ℕ) (q : ℕ) → finite.find nat_cmp q (marks ns) ≡ cond (list_any (eq_by_cmp nat_cmp q) ns) (Some (tt {0})) None
+find-marks [] q = refl
+find-marks (n ∷ ns) q = either (eq_by_cmp nat_cmp q n) (list_any (eq_by_cmp nat_cmp q) ns) _ (find-marks ns q)
+
+below : (n : ℕ) (ns : List ℕ) → AllByRecursion (λ m. nat_cmp n m ≡ Less) ns → T (below_all nat_cmp n (marks ns))
+below n [] h = tt
+below n (m ∷ ns) h = subst (λ o. T (is_lt o && below_all nat_cmp n (marks ns))) (sym h.0) (below n ns h.1)
+
+both : (a b : Bool) → T a → T b → T (a && b)
+both true b x y = y
+both false b x y = absurd x
+
+is_sorted-marks : (ns : List ℕ) → IsStrictlySortedBy nat_cmp ns → T (finite.is_sorted nat_cmp (marks ns))
+unfolding IsStrictlySortedBy
+is_sorted-marks [] h = tt
+is_sorted-marks (n ∷ ns) h = both _ _ (below n ns h.0) (is_sorted-marks ns h.1)
+
+-- A list that strictly rises and has the same numbers.
+pub rising_is : (ns ms : List ℕ) → IsStrictlySortedBy nat_cmp ms → ((q : ℕ) → list_any (eq_by_cmp nat_cmp q) ms ≡ list_any (eq_by_cmp nat_cmp q) ns) → rising ns ≡ ms
+rising_is ns ms sorted same =
+    let h = is_sorted-marks ms sorted in
+    let one : finite.from_entries {R = nat_cmp} (marks ns) ≡ finite.from_sorted {R = nat_cmp} (marks ms)
+    = finite.same_map nat_cmp_total finite.nat_cmp-IsAntisymmetric _ _ (λ q.
+    finite.get-from_entries nat_cmp_total (marks ns) q ∙ (find-marks ns q ∙ (ap (λ b. cond b (Some (tt {0})) None) (sym (same q)) ∙ (sym (find-marks ms q) ∙ sym (finite.get-from_sorted nat_cmp (marks ms) q h))))) in
+    ap finite.keys one ∙ (ap (map (λ (e : ℕ × Unit {0}). e.0)) (finite.entries-from_sorted nat_cmp (marks ms) h) ∙ keys-marks ms)
+
+map_none : {A B : Type 0} (f : A → B) (xs : List A) → map f xs ≡ [] → xs ≡ []
+map_none f [] h = refl
+map_none f (x ∷ xs) h = cc
+
+-- None rises where there is none.
+pub none_rising : (ns : List ℕ) → rising ns ≡ [] → ns ≡ []
+none_rising [] h = refl
+none_rising (n ∷ ns) h =
+    let m = finite.from_entries {R = nat_cmp} (marks (n ∷ ns)) in
+    let nothing : finite.entries m ≡ [] = map_none (λ (e : ℕ × Unit {0}). e.0) (finite.entries m) h in
+    let absent : finite.get m n ≡ None = finite.get-entries m n ∙ ap (finite.find nat_cmp n) nothing in
+    let there : finite.get m n ≡ Some (tt {0}) = finite.get-from_entries nat_cmp_total (marks (n ∷ ns)) n ∙ ap (λ r. cond (is_eq r) (Some (tt {0})) (finite.find nat_cmp n (marks ns))) (tied_itself nat_cmp_total n) in
+    let e : None ≡ Some (tt {0}) = sym absent ∙ there in cc
+
+-- ---- by a sort and a `dedup`
+
+or_twice : (a b : Bool) → (a || b) ≡ (a || (a || b))
+or_twice true b = refl
+or_twice false b = refl
+
+any_dedup_from : (p : ℕ → Bool) (k : ℕ) (xs : List ℕ) → list_any p (dedup_from eqb k xs) ≡ (p k || list_any p xs)
+any_dedup_from p k [] = refl
+any_dedup_from p k (x ∷ xs) = elim (cases_Bool (eqb x k)) [
+  | inl same ↦ rw (same, any_dedup_from p k xs, eqb-true x k same) (or_twice (p k) (list_any p xs))
+  | inr other ↦ rw (other, any_dedup_from p x xs) refl
+]
+
+any_dedup : (p : ℕ → Bool) (xs : List ℕ) → list_any p (dedup eqb xs) ≡ list_any p xs
+any_dedup p [] = refl
+any_dedup p (x ∷ xs) = any_dedup_from p x xs
+
+pub rising_sorted : (ns ms : List ℕ) → IsPermutation ns ms → IsSorted nat_cmp ms → rising ns ≡ dedup eqb ms
+rising_sorted ns ms moved sorted =
+    rising_is ns (dedup eqb ms) (sorted_from_strictly_increasing _ (IsStrictlyIncreasing-dedup ms sorted))
+    (λ q. any_dedup (eq_by_cmp nat_cmp q) ms ∙ sym (list_any-IsPermutation (eq_by_cmp nat_cmp q) ns ms moved))
+
+-- one of two is one of them with the second said first
+pub or_in_turn : (a b : Bool) → (a || (b || false)) ≡ (b || (a || (b || false)))
+or_in_turn true true = refl
+or_in_turn true false = refl
+or_in_turn false true = refl
+or_in_turn false false = refl

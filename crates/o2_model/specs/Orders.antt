@@ -1,0 +1,28 @@
+-- Numbers in order, and items that come again.
+use Rattle.std.specs.Prelude.{ℕ, Bool, true, false, not, nat_lt, List, [], ◌∷◌, ◌++◌, map, filter, Option, Some, None}
+use Rattle.std.specs.FinMap as finite
+use Rattle.std.specs.Ordering.{nat_cmp}
+use Rattle.std.specs.List.{range_with_len}
+
+-- the numbers from `low` on and below `high`
+abbrev pub from_to : ℕ → ℕ → List ℕ
+from_to low high = filter (λ n. not (nat_lt n low)) (range_with_len 0 high)
+
+-- the same numbers rising, each once
+abbrev pub rising : List ℕ → List ℕ
+rising ns = finite.keys (finite.from_entries {R = nat_cmp} (map (λ n. (n, tt {0})) ns))
+
+-- the items that are like an earlier one, some of them more than once
+abbrev pub later_like : {A : Type 0} → (A → A → Bool) → List A → List A
+later_like alike [] = []
+later_like alike (x ∷ xs) = filter (alike x) xs ++ later_like alike xs
+
+-- there is nothing in the list
+abbrev pub is_none_of : {A : Type 0} → List A → Bool
+is_none_of [] = true
+is_none_of (x ∷ xs) = false
+
+-- the first of the list
+abbrev pub first_of : {A : Type 0} → List A → Option A
+first_of [] = None
+first_of (x ∷ xs) = Some x

@@ -1,0 +1,38 @@
+// Laws of consistent images and of replays, each the contract of a function that does nothing.
+ghost use Rattle.std.specs.Prelude.{◌≡◌, Some, [], ℕ, length};
+ghost use Rattle.o2_disk.specs.Image.{Image};
+ghost use Rattle.o2_model.specs.declared.check.Check.{Check};
+ghost use Rattle.o2_model.specs.Volume.{Volume, opened};
+ghost use Rattle.o2_model.specs.Failing.{faults, failing, Holds};
+ghost use Rattle.o2_model.specs.Consistent.{IsConsistent};
+ghost use Rattle.o2_model.specs.Dirty.{dirty_slots, all_committed_writes};
+ghost use Rattle.o2_model.specs.Replay.{replayed, IsPartialReplay, IsReplayable, IsReplayStable};
+
+/// A law: where no pair fails, each check holds at each block.
+pub fn each_check_holds()
+    ensures faults { (v : Volume) → failing v ≡ [] → (c : Check) → faults v c ≡ [] }
+    ensures holds { (v : Volume) → failing v ≡ [] → (c : Check) (b : ℕ) → Holds v c b }
+{}
+
+/// A law: a consistent image has nothing to replay, so that a replay leaves it as it is.
+pub fn consistent_image_stays()
+    ensures slots { (I : Image) (v : Volume) → IsConsistent I → opened I ≡ Some v → dirty_slots v ≡ [] }
+    ensures writes { (v : Volume) → dirty_slots v ≡ [] → all_committed_writes v ≡ [] }
+    ensures image { (I : Image) → IsConsistent I → replayed I ≡ I }
+{}
+
+/// A law: a torn replay of an image with nothing dirty leaves that image alone.
+pub fn clean_image_has_no_variant()
+    ensures { (I V : Image) (v : Volume) → opened I ≡ Some v → dirty_slots v ≡ [] → IsPartialReplay I V → V ≡ I }
+{}
+
+/// A law: a replay-stable image can be replayed itself, as it is one that a torn replay of it leaves.
+pub fn stable_image_can_be_replayed()
+    ensures itself { (I : Image) (v : Volume) → opened I ≡ Some v → IsPartialReplay I I }
+    ensures now { (I : Image) (h : IsReplayStable I) → IsReplayable h.volume I }
+{}
+
+/// A law: a replay keeps the number of sectors.
+pub fn replay_keeps_length()
+    ensures { (I : Image) → length (replayed I) ≡ length I }
+{}
