@@ -1,3 +1,4 @@
+pub mod AnswerLemmas
 pub mod CatLemmas
 pub mod Fronts
 pub mod Judged

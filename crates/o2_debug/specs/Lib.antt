@@ -1,4 +1,5 @@
 pub mod Taken
+pub mod Answers
 pub mod Faults
 pub mod Lines
 pub mod Objects
