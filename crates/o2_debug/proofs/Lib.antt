@@ -1,4 +1,5 @@
 pub mod AnswerLemmas
+pub mod AtPath
 pub mod CatLemmas
 pub mod Fronts
 pub mod Judged

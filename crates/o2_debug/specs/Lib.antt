@@ -1,5 +1,6 @@
 pub mod Taken
 pub mod Answers
+pub mod Commands
 pub mod Faults
 pub mod Lines
 pub mod Objects

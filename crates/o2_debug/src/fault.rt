@@ -1,5 +1,5 @@
 // Why a query was not answered.
-use o2_dir::DirFault;
+use o2_dir::{DirFault, PathFault};
 use o2_disk::Failed;
 use o2_model::Check;
 use o2_view::ReadFault;
@@ -77,6 +77,22 @@ impl From<DirFault> for DebugFault {
             DirFault::DeviceFault => DebugFault::DeviceFault,
             DirFault::Bad { check, block } => DebugFault::Bad { check, block },
             DirFault::Absent => DebugFault::Absent,
+        }
+    }
+}
+
+impl From<PathFault> for DebugFault {
+    ghost use Rattle.o2_debug.specs.Faults.{IsOfPath};
+
+    ghost from_gives = { IsOfPath };
+
+    fn from(fault: PathFault) -> Self {
+        match fault {
+            PathFault::NoMemory => DebugFault::NoMemory,
+            PathFault::DeviceFault => DebugFault::DeviceFault,
+            PathFault::Bad { check, block } => DebugFault::Bad { check, block },
+            PathFault::Absent => DebugFault::Absent,
+            PathFault::WrongKind => DebugFault::WrongKind,
         }
     }
 }

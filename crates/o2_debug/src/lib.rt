@@ -1,6 +1,7 @@
 //! What `debugfs` prints of a volume.
 #![tactic(auto)]
 
+mod at_path;
 mod cat;
 mod fault;
 mod last_object;
@@ -11,12 +12,8 @@ mod put;
 mod query;
 mod text;
 
-pub use cat::put_file;
+pub use at_path::answer_at_path;
 pub use fault::DebugFault;
 pub use last_object::answer;
-pub use lines::{Lines, dinode_lines, entry_lines, extent_lines};
-pub use object::judge;
 pub use output::{put_lines, put_text};
-pub use put::{put_ls, put_stat};
 pub use query::Query;
-pub use text::{ls_lines, stat_lines};
