@@ -1,5 +1,6 @@
 pub mod Answer
 pub mod AskedWords
+pub mod CauseLines
 pub mod CommandLine
 pub mod Commands
 pub mod QueryWords
