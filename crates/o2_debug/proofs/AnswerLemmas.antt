@@ -1,5 +1,5 @@
 -- What the parts of an answer tell of the whole.
-use Rattle.std.proofs.Common.{◌≡◌, inl, inr, ℕ, Bool, true, false, List, [], refl, subst, ap, sym, ◌∙◌}
+use Rattle.std.proofs.Common.{◌≡◌, inr, ℕ, Bool, true, false, List, [], refl, subst, ap, sym, ◌∙◌}
 use Rattle.o2_disk.specs.Output.{SinkState}
 use Rattle.o2_ondisk.specs.Kinds.{kind_of_mode}
 use Rattle.o2_ondisk.specs.declared.dinode.Dinode.{Dinode}
@@ -13,9 +13,9 @@ use Rattle.o2_model.specs.Checks.DirBlock.{dir_block_faults}
 use Rattle.o2_dir.specs.Fails.{FailsNone, FailsFirst}
 use Rattle.o2_dir.specs.FileData.{HasBytes, DataFailsFirst}
 use Rattle.o2_debug.specs.declared.query.Query.TheVariants.{Ls, Stat, Cat}
-use Rattle.o2_debug.specs.Objects.{IsSound, FailsAsObject}
+use Rattle.o2_debug.specs.Objects.{IsSound}
 use Rattle.o2_debug.specs.Answers.{Answers, IsOfOtherKind, FailsFor}
-use Rattle.o2_debug.specs.Taken.{Takes, TakesSome}
+use Rattle.o2_debug.specs.Taken.{Takes}
 use Rattle.o2_debug.specs.Texts.{ls_text, stat_text, cat_text}
 
 -- nothing is the least of none

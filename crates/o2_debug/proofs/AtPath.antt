@@ -6,7 +6,7 @@ use Rattle.o2_model.specs.declared.geo.Geo.{Geo}
 use Rattle.o2_model.specs.Volume.{Volume, is_valid}
 use Rattle.o2_model.specs.Directories.{Entry}
 use Rattle.o2_dir.specs.PathTexts.{is_name, AreJoinedNames, IsPath}
-use Rattle.o2_dir.specs.Paths.{Follows, Begins, Leads}
+use Rattle.o2_dir.specs.Paths.{Begins, Leads}
 use Rattle.o2_debug.specs.Commands.{HasStarts}
 use Rattle.o2_debug.specs.Taken.{TakesSome}
 use Rattle.o2_debug.proofs.Fronts.{takes_nothing, all_is_some, some_of_both}

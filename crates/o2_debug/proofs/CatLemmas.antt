@@ -1,19 +1,16 @@
 -- The bytes of a file, piece by piece.
-use Rattle.std.proofs.Common.{◌≡◌, inl, inr, ℕ, ◌+◌, ◌≤◌, Bool, true, false, List, ◌++◌, length, take, drop, map, refl, sym, ◌∙◌, ap, arith}
-use Rattle.std.specs.Prelude.{min, if◌then◌else◌}
-use Rattle.std.specs.List.{range_with_len}
+use Rattle.std.proofs.Common.{◌≡◌, inl, inr, ℕ, ◌+◌, ◌≤◌, List, ◌++◌, length, take, drop, refl, sym, ◌∙◌, ap, arith}
 use Rattle.std.proofs.Math.Seq.{take-add}
 use Rattle.std.proofs.lemmas.Bool.{cases_Bool}
-use Rattle.std.proofs.lemmas.List.{take_all, take-append-drop, length-take}
+use Rattle.std.proofs.lemmas.List.{take-append-drop, length-take}
 use Rattle.std.proofs.lemmas.List.FromFn.{length-map-range_with_len}
 use Rattle.o2_disk.specs.Output.{SinkState}
 use Rattle.o2_model.specs.Volume.{Volume, dinode}
 use Rattle.o2_model.specs.Inodes.{is_inline, is_fast_link, leaf_records}
-use Rattle.o2_model.specs.Directories.{inline_bytes}
-use Rattle.o2_model.specs.Contents.{bytes_of, fast_bytes, byte_of}
+use Rattle.o2_model.specs.Contents.{bytes_of, byte_of}
 use Rattle.o2_debug.specs.Texts.{cat_text}
 use Rattle.o2_debug.specs.Taken.{Takes, TakesSome}
-use Rattle.o2_debug.proofs.Fronts.{takes_both, takes_as, takes_whole, all_is_some, stopped_at, some_of_next, some_of_both, some_as}
+use Rattle.o2_debug.proofs.Fronts.{takes_both, takes_as, takes_whole, stopped_at, some_of_next, some_of_both, some_as}
 
 -- there are at most i_size of them
 first_few : (n : ℕ) (bytes : List ℕ) → length (take n bytes) ≤ n

@@ -1,20 +1,18 @@
 -- What is wrong with an inode, by what its readers tell.
-use Rattle.std.proofs.Common.{◌≡◌, ◌≢◌, ℕ, Bool, true, false, List, [], ◌∷◌, length, refl, sym, ◌∙◌, ap, subst, ◌-◌, ◌^◌, ◌||◌}
+use Rattle.std.proofs.Common.{◌≡◌, ◌≢◌, ℕ, Bool, true, false, List, [], length, refl, sym, ◌∙◌, ap, subst, ◌-◌, ◌||◌}
 use Rattle.std.specs.Prelude.{Option, Some, None, IsSome, ◌&&◌, nat_le, if◌then◌else◌, flat_map}
 use Rattle.o2_ondisk.specs.Bits.{has_bits}
 use Rattle.o2_ondisk.specs.Number.{number_at}
 use Rattle.o2_ondisk.specs.Kinds.{kind_of_mode}
-use Rattle.o2_ondisk.specs.Dinodes.{dinode_of}
 use Rattle.o2_ondisk.specs.declared.dinode.Dinode.{Dinode}
 use Rattle.o2_ondisk.specs.declared.kind.Kind.{Kind}
 use Rattle.o2_ondisk.specs.declared.kind.Kind.TheVariants as k
 use Rattle.o2_model.specs.declared.check.Check.{Check}
 use Rattle.o2_model.specs.declared.check.Check.TheVariants as checks
-use Rattle.o2_model.specs.Words.{IsLeast, fails_unless}
 use Rattle.o2_model.specs.Volume.{Volume, dinode, block_size, is_valid}
-use Rattle.o2_model.specs.Inodes.{kind, is_directory, is_directory_kind, is_file, is_file_kind, is_link, is_link_kind, has_data, inline_flag, has_list, holds_list, extent_lists_of}
+use Rattle.o2_model.specs.Inodes.{kind, is_directory, is_directory_kind, is_file, is_file_kind, is_link, is_link_kind, has_data, inline_flag, holds_list, extent_lists_of}
 use Rattle.o2_model.specs.Checks.Extent.{extent_faults}
-use Rattle.o2_model.specs.Checks.InodeSize.{inode_size_faults, has_sound_size, is_size_of_kind}
+use Rattle.o2_model.specs.Checks.InodeSize.{has_sound_size, is_size_of_kind}
 use Rattle.o2_dir.specs.Fails.{FailsNone, FailsFirst}
 use Rattle.o2_dir.specs.FileData.{HasBytes, IsSoundData, DataFailsFirst}
 use Rattle.o2_dir.proofs.Whole.{size_sound, size_bad}

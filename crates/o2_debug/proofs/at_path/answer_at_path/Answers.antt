@@ -1,7 +1,6 @@
 -- The inode that the path leads to is a valid dinode, and there is no other.
-use Rattle.std.proofs.Common.{◌≡◌, ◌<◌, ℕ, List, true, arith, sym, ◌∙◌, subst}
+use Rattle.std.proofs.Common.{◌≡◌, ℕ, List, arith, sym, ◌∙◌, subst}
 use Rattle.std.proofs.lemmas.Result.{IfErr-weaker}
-use Rattle.o2_model.specs.Volume.{is_valid}
 use Rattle.o2_extent.specs.Seen.{volume_seen}
 use Rattle.o2_extent.proofs.Views.{still_in}
 use Rattle.o2_dir.specs.PathTexts.{IsPath}

@@ -1,5 +1,5 @@
 -- What was put before a fault, and a piece more.
-use Rattle.std.proofs.Common.{◌+◌, ◌-◌, ◌≤◌, arith, sym, ◌∙◌}
+use Rattle.std.proofs.Common.{arith, ◌∙◌}
 use Rattle.o2_extent.specs.Seen.{volume_seen}
 use Rattle.o2_extent.proofs.Views.{only_both}
 use Rattle.o2_debug.proofs.CatLemmas.{so_far, at_end, piece_more, some_more}

@@ -1,5 +1,5 @@
 -- The file: nothing is wrong with it any more.
-use Rattle.std.proofs.Common.{◌≡◌, ◌<◌, arith, sym, ◌∙◌, ap}
+use Rattle.std.proofs.Common.{arith, sym, ◌∙◌, ap}
 use Rattle.o2_ondisk.specs.declared.dinode.Dinode.{Dinode}
 use Rattle.std.proofs.lemmas.Result.{IfErr-weaker}
 use Rattle.o2_extent.specs.Seen.{volume_seen}

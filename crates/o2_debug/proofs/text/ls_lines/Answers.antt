@@ -1,5 +1,5 @@
 -- The lines of the entries that were read are the directory's.
-use Rattle.std.proofs.Common.{◌≡◌, ◌∙◌, ap, map, List}
+use Rattle.std.proofs.Common.{◌∙◌, ap, map, List}
 use Rattle.o2_extent.specs.Seen.{volume_seen}
 use Rattle.o2_dir.specs.Told.{told}
 use Rattle.o2_dir.specs.declared.entry.Entry.{Entry}
