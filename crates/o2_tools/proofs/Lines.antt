@@ -5,37 +5,42 @@ use Rattle.std.proofs.lemmas.List.{drop_more, drop_all}
 use Rattle.std.specs.declared.alloc.Global.{Global}
 use Rattle.o2_tools.specs.declared.cause.Cause.{Cause}
 use Rattle.o2_tools.specs.declared.cause.Cause.TheVariants.{Fine, Usage, Later, NotOcfs2, Range, DeviceFault, NoMemory}
-use Rattle.o2_tools.specs.CommandLine.{Words, texts, IsDevice, IsLine, Begins, IsFirst, AreFirst, IsNotBuilt, RefusesWords}
+use Rattle.o2_tools.specs.CommandLine.{Words, texts, IsDevice, IsLabelLine, IsTunefs, IsDebugfs, IsLine, Begins, IsFirst, AreFirst, IsNotBuilt, RefusesWords, device_of}
 
 -- texts with other letters at this place are not the same
-apart : (k : ℕ) (xs ys : List ℕ) → nat_eq (get_or xs k 0) (get_or ys k 0) ≡ false → xs ≡ ys → ⊥
+pub apart : (k : ℕ) (xs ys : List ℕ) → nat_eq (get_or xs k 0) (get_or ys k 0) ≡ false → xs ≡ ys → ⊥
 apart k xs ys differ same = let letter : get_or xs k 0 ≡ get_or ys k 0 = ap (λ (l : List ℕ). get_or l k 0) same in absurd (grind (arith, nat_tests))
 
-abbrev tunefs : List ℕ
+abbrev pub tunefs : List ℕ
 tunefs = codes "tunefs"
 
-abbrev label_option : List ℕ
+abbrev pub label_option : List ℕ
 label_option = codes "-L"
 
 -- a device's name
-disk : IsDevice (codes "d")
+pub disk : IsDevice (codes "d")
 disk = record { some = omega arith; no_option = λ is. absurd (omega (arith, is)) }
+
+-- a line whose first word is `tunefs` is one of tunefs
+of_tunefs : (rest : Words) → IsLine (tunefs ∷ rest) → IsTunefs (tunefs ∷ rest)
+of_tunefs rest (inl line) = line
+of_tunefs rest (inr line) = absurd (let same : tunefs ≡ codes "debugfs" = (let e = line.1.1.form in cc e) in apart 0 tunefs (codes "debugfs") refl same)
 
 -- ---- words that begin a command line
 begins_line : (label device : List ℕ) → IsDevice device → Begins (tunefs ∷ label_option ∷ label ∷ device ∷ [])
-begins_line label device is = ([], (label, (device, record { form = refl; names = is })))
+begins_line label device is = ([], inl (label, (device, record { form = refl; names = is })))
 
 begins_label : (label : List ℕ) → Begins (tunefs ∷ label_option ∷ label ∷ [])
-begins_label label = (codes "d" ∷ [], (label, (codes "d", record { form = refl; names = disk })))
+begins_label label = (codes "d" ∷ [], inl (label, (codes "d", record { form = refl; names = disk })))
 
 begins_option : Begins (tunefs ∷ label_option ∷ [])
-begins_option = ([] ∷ codes "d" ∷ [], ([], (codes "d", record { form = refl; names = disk })))
+begins_option = ([] ∷ codes "d" ∷ [], inl ([], (codes "d", record { form = refl; names = disk })))
 
 begins_tool : Begins (tunefs ∷ [])
-begins_tool = (label_option ∷ [] ∷ codes "d" ∷ [], ([], (codes "d", record { form = refl; names = disk })))
+begins_tool = (label_option ∷ [] ∷ codes "d" ∷ [], inl ([], (codes "d", record { form = refl; names = disk })))
 
-begins_none : Begins []
-begins_none = (tunefs ∷ label_option ∷ [] ∷ codes "d" ∷ [], ([], (codes "d", record { form = refl; names = disk })))
+pub begins_none : Begins []
+begins_none = (tunefs ∷ label_option ∷ [] ∷ codes "d" ∷ [], inl ([], (codes "d", record { form = refl; names = disk })))
 
 -- ---- words that have no form that is not built
 -- none of the tools
@@ -49,14 +54,13 @@ pub record IsNoTool (tool : List ℕ) : Type 0 where
 other_tool : (tool : List ℕ) (rest : Words) → IsNoTool tool → IsNotBuilt (tool ∷ rest) → ⊥
 other_tool tool rest other built =
     let is : (name : List ℕ) → IsFirst name (tool ∷ rest) → tool ≡ name = λ name first. cc (first.1) in
-    let of_tunefs : (option : List ℕ) → AreFirst tunefs option (tool ∷ rest) → tool ≡ tunefs = λ option first. cc (first.1) in
+    let of_option : (option : List ℕ) → AreFirst tunefs option (tool ∷ rest) → tool ≡ tunefs = λ option first. cc (first.1) in
     ⊎_elim (λ a. other.mkfs (is (codes "mkfs") a))
     (⊎_elim (λ a. other.fsck (is (codes "fsck") a))
-    (⊎_elim (λ a. other.debugfs (is (codes "debugfs") a))
     (⊎_elim (λ a. other.sample (is (codes "sample") a))
-    (⊎_elim (λ a. other.tunefs (of_tunefs (codes "-N") a))
-    (⊎_elim (λ a. other.tunefs (of_tunefs (codes "-J") a))
-    (λ a. other.tunefs (of_tunefs (codes "-S") a)))))))
+    (⊎_elim (λ a. other.tunefs (of_option (codes "-N") a))
+    (⊎_elim (λ a. other.tunefs (of_option (codes "-J") a))
+    (λ a. other.tunefs (of_option (codes "-S") a))))))
     built
 
 -- none of the options that are not built
@@ -73,22 +77,20 @@ other_option option rest other built =
     let is : (name : List ℕ) → AreFirst tunefs name (tunefs ∷ option ∷ rest) → option ≡ name = λ name first. cc (first.1) in
     ⊎_elim (other_first (codes "mkfs") (option ∷ rest) refl)
     (⊎_elim (other_first (codes "fsck") (option ∷ rest) refl)
-    (⊎_elim (other_first (codes "debugfs") (option ∷ rest) refl)
     (⊎_elim (other_first (codes "sample") (option ∷ rest) refl)
     (⊎_elim (λ a. other.slots (is (codes "-N") a))
     (⊎_elim (λ a. other.journals (is (codes "-J") a))
-    (λ a. other.size (is (codes "-S") a)))))))
+    (λ a. other.size (is (codes "-S") a))))))
     built
 
 no_option : IsNotBuilt (tunefs ∷ []) → ⊥
 no_option built =
     ⊎_elim (other_first (codes "mkfs") [] refl)
     (⊎_elim (other_first (codes "fsck") [] refl)
-    (⊎_elim (other_first (codes "debugfs") [] refl)
     (⊎_elim (other_first (codes "sample") [] refl)
     (⊎_elim (λ a. cc (a.1))
     (⊎_elim (λ a. cc (a.1))
-    (λ a. cc (a.1)))))))
+    (λ a. cc (a.1))))))
     built
 
 no_word : IsNotBuilt [] → ⊥
@@ -98,8 +100,7 @@ no_word built =
     (⊎_elim (λ a. cc (a.1))
     (⊎_elim (λ a. cc (a.1))
     (⊎_elim (λ a. cc (a.1))
-    (⊎_elim (λ a. cc (a.1))
-    (λ a. cc (a.1)))))))
+    (λ a. cc (a.1))))))
     built
 
 label_is_option : IsOption label_option
@@ -110,11 +111,20 @@ label_is_option = record {
 }
 
 -- ---- the places
+no_line_at_all : IsLine [] → ⊥
+no_line_at_all (inl line) = (let e = line.1.1.form in cc e)
+no_line_at_all (inr line) = (let e = line.1.1.form in cc e)
+
+-- a command line begins with one of the tools
+no_line_of : (tool : List ℕ) (rest : Words) → IsNoTool tool → IsLine (tool ∷ rest) → ⊥
+no_line_of tool rest other (inl line) = other.tunefs (let e = line.1.1.form in cc e)
+no_line_of tool rest other (inr line) = other.debugfs (let e = line.1.1.form in cc e)
+
 pub usage_none : RefusesWords [] (Usage 0)
 usage_none = (
   no_word,
   record {
-    no_line = λ line. (let e = line.1.1.form in cc e);
+    no_line = λ line. no_line_at_all line;
     within = omega arith;
     begins = begins_none;
     leaves = λ h. absurd (omega (arith, h));
@@ -125,10 +135,10 @@ pub usage_tool : (tool : List ℕ) (rest : Words) → IsNoTool tool → RefusesW
 usage_tool tool rest other = (
   other_tool tool rest other,
   record {
-    no_line = λ line. other.tunefs (let e = line.1.1.form in cc e);
+    no_line = no_line_of tool rest other;
     within = omega arith;
     begins = begins_none;
-    leaves = λ h begins. other.tunefs (let e = begins.1.1.1.form in cc e);
+    leaves = λ h begins. no_line_of tool begins.0 other begins.1;
   },
 )
 
@@ -136,7 +146,7 @@ pub usage_no_option : RefusesWords (tunefs ∷ []) (Usage 1)
 usage_no_option = (
   no_option,
   record {
-    no_line = λ line. (let e = line.1.1.form in cc e);
+    no_line = λ line. (let e = (of_tunefs ([]) line).1.1.form in cc e);
     within = omega arith;
     begins = begins_tool;
     leaves = λ h. absurd (omega (arith, h));
@@ -147,10 +157,10 @@ pub usage_option : (option : List ℕ) (rest : Words) → IsOption option → op
 usage_option option rest other unlike = (
   other_option option rest other,
   record {
-    no_line = λ line. unlike (let e = line.1.1.form in cc e);
+    no_line = λ line. unlike (let e = (of_tunefs (option ∷ rest) line).1.1.form in cc e);
     within = omega arith;
     begins = begins_tool;
-    leaves = λ h begins. unlike (let e = begins.1.1.1.form in cc e);
+    leaves = λ h begins. unlike (let e = (of_tunefs (option ∷ begins.0) begins.1).1.1.form in cc e);
   },
 )
 
@@ -158,7 +168,7 @@ pub usage_no_label : RefusesWords (tunefs ∷ label_option ∷ []) (Usage 2)
 usage_no_label = (
   other_option label_option [] label_is_option,
   record {
-    no_line = λ line. (let e = line.1.1.form in cc e);
+    no_line = λ line. (let e = (of_tunefs (label_option ∷ []) line).1.1.form in cc e);
     within = omega arith;
     begins = begins_option;
     leaves = λ h. absurd (omega (arith, h));
@@ -169,7 +179,7 @@ pub usage_no_device : (label : List ℕ) → RefusesWords (tunefs ∷ label_opti
 usage_no_device label = (
   other_option label_option (label ∷ []) label_is_option,
   record {
-    no_line = λ line. (let e = line.1.1.form in cc e);
+    no_line = λ line. (let e = (of_tunefs (label_option ∷ label ∷ []) line).1.1.form in cc e);
     within = omega arith;
     begins = begins_label label;
     leaves = λ h. absurd (omega (arith, h));
@@ -180,10 +190,10 @@ pub usage_device : (label device : List ℕ) (rest : Words) → (IsDevice device
 usage_device label device rest unlike = (
   other_option label_option (label ∷ device ∷ rest) label_is_option,
   record {
-    no_line = λ line. unlike (let same : line.1.0 ≡ device = (let e = line.1.1.form in cc e) in subst IsDevice same line.1.1.names);
+    no_line = λ line. unlike (let same : (of_tunefs (label_option ∷ label ∷ device ∷ rest) line).1.0 ≡ device = (let e = (of_tunefs (label_option ∷ label ∷ device ∷ rest) line).1.1.form in cc e) in subst IsDevice same (of_tunefs (label_option ∷ label ∷ device ∷ rest) line).1.1.names);
     within = omega arith;
     begins = begins_label label;
-    leaves = λ h begins. unlike (let same : begins.1.1.0 ≡ device = (let e = begins.1.1.1.form in cc e) in subst IsDevice same begins.1.1.1.names);
+    leaves = λ h begins. unlike (let same : (of_tunefs (label_option ∷ label ∷ device ∷ begins.0) begins.1).1.0 ≡ device = (let e = (of_tunefs (label_option ∷ label ∷ device ∷ begins.0) begins.1).1.1.form in cc e) in subst IsDevice same (of_tunefs (label_option ∷ label ∷ device ∷ begins.0) begins.1).1.1.names);
   },
 )
 
@@ -191,10 +201,10 @@ pub usage_more : (label device more : List ℕ) (rest : Words) → IsDevice devi
 usage_more label device more rest is = (
   other_option label_option (label ∷ device ∷ more ∷ rest) label_is_option,
   record {
-    no_line = λ line. (let e = line.1.1.form in cc e);
+    no_line = λ line. (let e = (of_tunefs (label_option ∷ label ∷ device ∷ more ∷ rest) line).1.1.form in cc e);
     within = omega arith;
     begins = begins_line label device is;
-    leaves = λ h begins. (let e = begins.1.1.1.form in cc e);
+    leaves = λ h begins. (let e = (of_tunefs (label_option ∷ label ∷ device ∷ more ∷ begins.0) begins.1).1.1.form in cc e);
   },
 )
 
@@ -211,13 +221,13 @@ pub texts_end : (words : List (String Global)) (k : ℕ) → length words ≤ k 
 texts_end words k past = ap texts (drop_all k words past)
 
 -- what the tests of a tool and of an option say
-pub no_tool : (tool : List ℕ) → tool ≢ codes "tunefs" → ((tool ≡ codes "mkfs") ⊎ (tool ≡ codes "fsck") ⊎ (tool ≡ codes "debugfs") ⊎ (tool ≡ codes "sample") → IsTrue false) → IsNoTool tool
-no_tool tool unlike built = record {
+pub no_tool : (tool : List ℕ) → tool ≢ codes "tunefs" → tool ≢ codes "debugfs" → ((tool ≡ codes "mkfs") ⊎ (tool ≡ codes "fsck") ⊎ (tool ≡ codes "sample") → IsTrue false) → IsNoTool tool
+no_tool tool unlike unasked built = record {
   tunefs = unlike;
   mkfs = λ e. let b = built (inl e) in cc b;
   fsck = λ e. let b = built (inr (inl e)) in cc b;
-  debugfs = λ e. let b = built (inr (inr (inl e))) in cc b;
-  sample = λ e. let b = built (inr (inr (inr e))) in cc b;
+  debugfs = unasked;
+  sample = λ e. let b = built (inr (inr e)) in cc b;
 }
 
 pub built_option : (option : List ℕ) → ((option ≡ codes "-N") ⊎ (option ≡ codes "-J") ⊎ (option ≡ codes "-S") → IsTrue false) → IsOption option
@@ -228,29 +238,26 @@ built_option option built = record {
 }
 
 -- words of a tool that is not built, and of such an option
-pub unbuilt_tool : (words rest : Words) (tool : List ℕ) → words ≡ tool ∷ rest → (tool ≡ codes "mkfs") ⊎ (tool ≡ codes "fsck") ⊎ (tool ≡ codes "debugfs") ⊎ (tool ≡ codes "sample") → IsNotBuilt words
-unbuilt_tool words rest tool shown one = elim one [
+pub unbuilt_tool : (words rest : Words) (tool : List ℕ) → words ≡ tool ∷ rest → (tool ≡ codes "mkfs") ⊎ (tool ≡ codes "fsck") ⊎ (tool ≡ codes "sample") → RefusesWords words Later
+unbuilt_tool words rest tool shown one = inl (elim one [
   | inl e ↦ inl (named (codes "mkfs") e)
   | inr one ↦ elim one [
     | inl e ↦ inr (inl (named (codes "fsck") e))
-    | inr one ↦ elim one [
-      | inl e ↦ inr (inr (inl (named (codes "debugfs") e)))
-      | inr e ↦ inr (inr (inr (inl (named (codes "sample") e))))
-    ]
+    | inr e ↦ inr (inr (inl (named (codes "sample") e)))
   ]
-]
+])
   where
     named : (name : List ℕ) → tool ≡ name → IsFirst name words
     named name e = (rest, shown ∙ ap (λ (t : List ℕ). t ∷ rest) e)
 
-pub unbuilt_option : (words rest : Words) (option : List ℕ) → words ≡ tunefs ∷ option ∷ rest → (option ≡ codes "-N") ⊎ (option ≡ codes "-J") ⊎ (option ≡ codes "-S") → IsNotBuilt words
-unbuilt_option words rest option shown one = elim one [
-  | inl e ↦ inr (inr (inr (inr (inl (named (codes "-N") e)))))
+pub unbuilt_option : (words rest : Words) (option : List ℕ) → words ≡ tunefs ∷ option ∷ rest → (option ≡ codes "-N") ⊎ (option ≡ codes "-J") ⊎ (option ≡ codes "-S") → RefusesWords words Later
+unbuilt_option words rest option shown one = inl (elim one [
+  | inl e ↦ inr (inr (inr (inl (named (codes "-N") e))))
   | inr one ↦ elim one [
-    | inl e ↦ inr (inr (inr (inr (inr (inl (named (codes "-J") e))))))
-    | inr e ↦ inr (inr (inr (inr (inr (inr (named (codes "-S") e))))))
+    | inl e ↦ inr (inr (inr (inr (inl (named (codes "-J") e)))))
+    | inr e ↦ inr (inr (inr (inr (inr (named (codes "-S") e)))))
   ]
-]
+])
   where
     named : (name : List ℕ) → option ≡ name → AreFirst tunefs name words
     named name e = (rest, shown ∙ ap (λ (t : List ℕ). tunefs ∷ t ∷ rest) e)
@@ -274,7 +281,7 @@ behind_two (w ∷ v ∷ words) tool option first =
     ap (λ (t : List ℕ). t ∷ string_bytes v ∷ texts words) same ∙ ap (λ (t : List ℕ). tool ∷ t ∷ texts words) next
 
 -- some word at k, and those behind it
-word_at : (words : List (String Global)) (k : ℕ) → k < length words → (word : String Global) × (texts (drop k words) ≡ string_bytes word ∷ texts (drop (k + 1) words))
+pub word_at : (words : List (String Global)) (k : ℕ) → k < length words → (word : String Global) × (texts (drop k words) ≡ string_bytes word ∷ texts (drop (k + 1) words))
 word_at [] k within = absurd (omega (arith, within))
 word_at (w ∷ words) k within = (get_or (w ∷ words) k w, ap texts (drop_more (w ∷ words) k w within))
 
@@ -302,13 +309,37 @@ module _ (words : List (String Global)) (first : AreFirst tunefs label_option (t
         let at = word_at words 4 more in
         refused_as (tunefs ∷ label_option ∷ shown.0 ∷ device ∷ string_bytes at.0 ∷ texts (drop 5 words)) (texts words) 4 (shown.1 ∙ ap (λ (rest : Words). tunefs ∷ label_option ∷ shown.0 ∷ device ∷ rest) at.1) (usage_more shown.0 device (string_bytes at.0) (texts (drop 5 words)) names)
 
--- a command line is not refused for its words
-pub line_stands : (words : Words) (cause : Cause) → IsLine words → RefusesWords words cause → ⊥
-line_stands words Later line built =
-    other_option label_option (line.0 ∷ line.1.0 ∷ []) label_is_option (subst IsNotBuilt line.1.1.form built)
-line_stands words (Usage place) line refused = refused.1.no_line line
-line_stands words Fine line refused = refused
-line_stands words NotOcfs2 line refused = refused
-line_stands words (Range which value) line refused = refused
-line_stands words DeviceFault line refused = refused
-line_stands words NoMemory line refused = refused
+-- a command line is not refused for its place
+pub no_usage : (words : Words) (cause : Cause) (place : ℕ) → IsLine words → RefusesWords words cause → cause ≢ Usage place
+no_usage words (Usage k) place line refused is = refused.1.no_line line
+no_usage words Later place line refused is = cc is
+no_usage words NoMemory place line refused is = cc is
+no_usage words Fine place line refused is = refused
+no_usage words NotOcfs2 place line refused is = refused
+no_usage words (Range which value) place line refused is = refused
+no_usage words DeviceFault place line refused is = refused
+
+-- one of tunefs is refused for want of memory alone
+pub refused_tunefs : (words : Words) (cause : Cause) → IsTunefs words → RefusesWords words cause → cause ≡ NoMemory
+refused_tunefs words Later line (inl built) = absurd (other_option label_option (line.0 ∷ line.1.0 ∷ []) label_is_option (subst IsNotBuilt line.1.1.form built))
+refused_tunefs words Later line (inr later) = absurd (let same : tunefs ≡ codes "debugfs" = (let e = line.1.1.form in let f = later.line.form in cc (e, f)) in apart 0 tunefs (codes "debugfs") refl same)
+refused_tunefs words (Usage place) line refused = absurd (refused.1.no_line (inl line))
+refused_tunefs words NoMemory line refused = refl
+refused_tunefs words Fine line refused = absurd refused
+refused_tunefs words NotOcfs2 line refused = absurd refused
+refused_tunefs words (Range which value) line refused = absurd refused
+refused_tunefs words DeviceFault line refused = absurd refused
+
+-- one of debugfs waits for a later version, or is refused for want of memory
+pub refused_debugfs : (words : Words) (cause : Cause) → IsDebugfs words → RefusesWords words cause → (cause ≡ Later) ⊎ (cause ≡ NoMemory)
+refused_debugfs words Later line refused = inl refl
+refused_debugfs words (Usage place) line refused = absurd (refused.1.no_line (inr line))
+refused_debugfs words NoMemory line refused = inr refl
+refused_debugfs words Fine line refused = absurd refused
+refused_debugfs words NotOcfs2 line refused = absurd refused
+refused_debugfs words (Range which value) line refused = absurd refused
+refused_debugfs words DeviceFault line refused = absurd refused
+
+-- no words are a line of both
+pub not_both : (words : Words) → IsTunefs words → IsDebugfs words → ⊥
+not_both words line asks = let same : tunefs ≡ codes "debugfs" = (let e = line.1.1.form in let f = asks.1.1.form in cc (e, f)) in apart 0 tunefs (codes "debugfs") refl same

@@ -4,6 +4,7 @@ ghost use Rattle.o2_disk.specs.declared.disk.AttachFault.TheVariants.{NoMemory a
 
 use o2_disk::{AttachFault, Failed};
 use o2_view::Which;
+use std::alloc::{AllocError, Global};
 
 /// Why a run ended.
 #[derive(Clone, Copy, Debug, PartialEq, Eq)]
@@ -37,6 +38,27 @@ impl Cause {
             Cause::DeviceFault => 8,
             Cause::Usage { .. } => 16,
             Cause::NoMemory => 64,
+        }
+    }
+}
+
+impl Cause {
+    ghost use Rattle.std.specs.Prelude.{IfOk, string_bytes};
+    ghost use Rattle.o2_tools.specs.CauseLines.{cause_line};
+
+    /// The line that it prints, with its newline, where the first word is this tool. It is empty where nothing is printed.
+    pub fn line(self, alloc: Global, tool: &str) -> Result<String, AllocError>
+        ensures { IfOk result (λ line. string_bytes line ≡ cause_line tool.now self) }
+    {
+        match self {
+            Cause::Fine | Cause::NoMemory => Ok(String::new(alloc)),
+            Cause::Usage { place } => format!(in alloc; "usage: word {place}\n"),
+            Cause::Later => format!(in alloc; "{tool}: not built yet\n"),
+            Cause::NotOcfs2 => format!(in alloc; "{tool}: not an OCFS2 volume\n"),
+            Cause::Range { which, value } => {
+                format!(in alloc; "{tool}: out of range: {which} {value}\n")
+            }
+            Cause::DeviceFault => format!(in alloc; "{tool}: device fault\n"),
         }
     }
 }

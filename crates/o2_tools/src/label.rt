@@ -24,7 +24,7 @@ pub fn set_label<D: Disk>(
     alloc: Global,
     device: &mut D,
     name: &str,
-    label: &str,
+    label: &[u8],
 ) -> Result<(), Cause>
     ensures answer { (I : Image) → (D.state device.old).content ≡ Some I → MatchResult result (λ _. refusal_of label.now I ≡ None) (IsCauseFor (refusal_of label.now I)) }
     ensures length { IfErr result (λ cause. (which : _) (value : ℕ) → cause ≡ Cause.Range which value → label_refusal label.now ≡ Some cause) }
@@ -74,12 +74,12 @@ fn open_volume<D: Disk>(alloc: Global, device: &mut D, name: &str) -> Result<Sup
 }
 
 // The label's field: the label, filled up with NUL.
-fn padded(label: &str) -> [u8; 64]
+fn padded(label: &[u8]) -> [u8; 64]
     requires { length label.now ≤ 64 }
     ensures { result ≡ label_field label.now }
 {
     let mut field = [0; LABEL_SIZE];
-    put_first(&mut field, label.as_bytes());
+    put_first(&mut field, label);
     field
 }
 

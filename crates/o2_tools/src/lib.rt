@@ -2,13 +2,17 @@
 #![tactic(auto)]
 
 mod cause;
+mod command;
 mod label;
 mod program;
+mod query_word;
 mod superblock;
 #[cfg(test)]
 mod tests;
 mod words;
 
 pub use cause::{Cause, Done};
+pub use command::{Command, WordFault};
 pub use o2_view::Which;
 pub use program::run;
+pub use words::read_words;

@@ -4,12 +4,12 @@ ghost use Rattle.o2_disk.specs.Device.{ReadsOnly, Rose, IsSettled, LeavesOnly, T
 ghost use Rattle.o2_model.specs.Image.{Image};
 ghost use Rattle.o2_model.specs.Label.{relabelled};
 ghost use Rattle.o2_tools.specs.Answer.{label_refusal, refusal_of, IsAnswer};
-ghost use Rattle.o2_tools.specs.CommandLine.{texts, IsLine, RefusesWords, label_of, device_of};
+ghost use Rattle.o2_tools.specs.CommandLine.{texts, IsTunefs, IsDebugfs, IsLine, RefusesWords, label_of, device_of};
 ghost use Rattle.o2_tools.specs.Status.{status_of, IsRefusal};
 
 use crate::label::set_label;
 use crate::words::read_words;
-use crate::{Cause, Done};
+use crate::{Cause, Command, Done};
 use o2_disk::{Disk, Sink};
 use std::alloc::Global;
 
@@ -28,19 +28,21 @@ pub fn run<D: Disk, E: Disk, K: Sink>(
 ) -> Done
     ensures status { result.status ≡ status_of result.cause }
 
-    // Words that are no command line are refused for what they are, and a command line is not.
+    // Words that are no command line are refused for what they are, and a command line is not. One of debugfs waits for
+    // a later version.
     ensures words { (IsLine (texts words.now) → ⊥) → RefusesWords (texts words.now) result.cause }
     ensures line { IsLine (texts words.now) → (place : ℕ) → result.cause ≢ Cause.Usage place }
+    ensures later { IsDebugfs (texts words.now) → (result.cause ≡ Cause.Later) ⊎ (result.cause ≡ Cause.NoMemory) }
 
-    // A command line is answered by the first refusal that stands, or is fine. Else the device failed, and has told so,
-    // or memory ran out.
-    ensures answer { IsLine (texts words.now) → (I : Image) → (D.state device.old).content ≡ Some I → IsAnswer (refusal_of (label_of (texts words.now)) I) result.cause }
+    // A command line of tunefs is answered by the first refusal that stands, or is fine. Else the device failed, and has
+    // told so, or memory ran out.
+    ensures answer { IsTunefs (texts words.now) → (I : Image) → (D.state device.old).content ≡ Some I → IsAnswer (refusal_of (label_of (texts words.now)) I) result.cause }
     ensures range { (which : _) (value : ℕ) → result.cause ≡ Cause.Range which value → label_refusal (label_of (texts words.now)) ≡ Some result.cause }
     ensures fault { result.cause ≡ Cause.DeviceFault → Rose (D.state device.old).faults (D.state device.new).faults }
 
     // The device is attached under the name that the command line gives. Other words leave it alone.
-    ensures named { IsLine (texts words.now) → result.cause ≢ Cause.NoMemory → (D.state device.new).name ≡ device_of (texts words.now) }
-    ensures alone { (IsLine (texts words.now) → ⊥) → device.new ≡ device.old }
+    ensures named { IsTunefs (texts words.now) → result.cause ≢ Cause.NoMemory → (D.state device.new).name ≡ device_of (texts words.now) }
+    ensures alone { (IsTunefs (texts words.now) → ⊥) → device.new ≡ device.old }
 
     // Fine leaves the volume with the label. A refusal writes nothing, nor does a label that is there already.
     ensures done { result.cause ≡ Cause.Fine → Told (λ I J. J ≡ relabelled (label_of (texts words.now)) I) (D.state device.old) (D.state device.new) }
@@ -56,12 +58,20 @@ pub fn run<D: Disk, E: Disk, K: Sink>(
     ensures other { other.new ≡ other.old }
     ensures output { out.new ≡ out.old }
 {
-    let line = match read_words(words) {
-        Ok(line) => line,
-        Err(cause) => return Done::by(cause),
-    };
-    match set_label(alloc, device, line.device, line.label) {
-        Ok(()) => Done::by(Cause::Fine),
-        Err(cause) => Done::by(cause),
+    match read_words(alloc, words) {
+        Err(fault) => Done::by(Cause::from(fault)),
+        Ok(Command::Debug { .. }) => Done::by(Cause::Later),
+        Ok(
+            Command::Label {
+                label,
+                device: place,
+            },
+        ) => {
+            let name = words[place as usize].as_str();
+            match set_label(alloc, device, name, label.as_slice()) {
+                Ok(()) => Done::by(Cause::Fine),
+                Err(cause) => Done::by(cause),
+            }
+        }
     }
 }

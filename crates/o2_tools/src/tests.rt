@@ -84,7 +84,7 @@ fn with_label(sector: &[u8; 512], label: &[u8]) -> [u8; 512] {
 }
 
 // Each line of words, parted by bars, and the cause by which it is refused.
-const REFUSED: [(&str, Cause); 36] = [
+const REFUSED: [(&str, Cause); 53] = [
     ("", Cause::Usage { place: 0 }),
     ("Tunefs", Cause::Usage { place: 0 }),
     ("tunefs ", Cause::Usage { place: 0 }),
@@ -115,7 +115,27 @@ const REFUSED: [(&str, Cause); 36] = [
     ("mkfs", Cause::Later),
     ("mkfs|-b|4096|disk", Cause::Later),
     ("fsck|-n|-y|disk", Cause::Later),
+    ("debugfs", Cause::Usage { place: 1 }),
+    ("debugfs|disk", Cause::Usage { place: 1 }),
+    ("debugfs|-R", Cause::Usage { place: 2 }),
+    ("debugfs|-R|ls|disk", Cause::Usage { place: 2 }),
+    ("debugfs|-R|ls /a/|disk", Cause::Usage { place: 2 }),
+    ("debugfs|-R|ls ///|disk", Cause::Usage { place: 2 }),
+    ("debugfs|-R|ls  /|disk", Cause::Usage { place: 2 }),
+    ("debugfs|-R|cat a|disk", Cause::Usage { place: 2 }),
+    ("debugfs|-R|stat|/|disk", Cause::Usage { place: 2 }),
+    (
+        "debugfs|-R|icheck 1234567890123456789|disk",
+        Cause::Usage { place: 2 },
+    ),
+    ("debugfs|-R|ls /a b", Cause::Usage { place: 3 }),
+    ("debugfs|-R|cat //a|-d", Cause::Usage { place: 3 }),
+    ("debugfs|-R|stats|disk|more", Cause::Usage { place: 4 }),
+    ("debugfs|-R|stats|disk", Cause::Later),
+    ("debugfs|-R|refcount /a b/c|disk", Cause::Later),
+    ("debugfs|-R|icheck 123456789012345678|disk", Cause::Later),
     ("debugfs|-R|ls /|disk", Cause::Later),
+    ("debugfs|-R|cat //a b/c|disk", Cause::Later),
     ("sample|1000|disk", Cause::Later),
     ("tunefs|-N", Cause::Later),
     ("tunefs|-N|4|disk", Cause::Later),

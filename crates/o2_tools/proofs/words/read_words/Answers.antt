@@ -23,7 +23,8 @@ returns-then-ne c =
     let some : 0 < length words = search rules in
     let shown = texts_from words 0 c.index-words-0.result tool some c.index-words-0.is c.as_str-tool.ensures.value in
     let unlike : tool ≢ codes "tunefs" = search rules in
-    refused_as (tool ∷ texts (drop 1 words)) (texts words) 0 shown (usage_tool tool (texts (drop 1 words)) (no_tool tool unlike c.if-is_unbuilt_tool.ensures.1))
+    let unasked : tool ≢ codes "debugfs" = search rules in
+    refused_as (tool ∷ texts (drop 1 words)) (texts words) 0 shown (usage_tool tool (texts (drop 1 words)) (no_tool tool unlike unasked c.if-is_unbuilt_tool.ensures.1))
 
 pub read_tunefs-requires : goal.read_tunefs-requires
 read_tunefs-requires c =
@@ -32,4 +33,13 @@ read_tunefs-requires c =
     let some : 0 < length words = search rules in
     let shown = texts_from words 0 c.index-words-0.result tool some c.index-words-0.is c.as_str-tool.ensures.value in
     let is : tool ≡ codes "tunefs" = search rules in
+    (texts (drop 1 words), shown ∙ ap (λ (t : List ℕ). t ∷ texts (drop 1 words)) is)
+
+pub read_debugfs-requires : goal.read_debugfs-requires
+read_debugfs-requires c =
+    let words = c.args.words.now in
+    let tool = c.as_str-tool.result.now in
+    let some : 0 < length words = search rules in
+    let shown = texts_from words 0 c.index-words-0.result tool some c.index-words-0.is c.as_str-tool.ensures.value in
+    let is : tool ≡ codes "debugfs" = search rules in
     (texts (drop 1 words), shown ∙ ap (λ (t : List ℕ). t ∷ texts (drop 1 words)) is)

@@ -1,0 +1,75 @@
+-- What the parts of an answer tell of the whole.
+use Rattle.std.proofs.Common.{◌≡◌, inr, ℕ, Bool, true, false, List, [], refl, subst, ap, sym, ◌∙◌}
+use Rattle.o2_disk.specs.Output.{SinkState}
+use Rattle.o2_ondisk.specs.Kinds.{kind_of_mode}
+use Rattle.o2_ondisk.specs.declared.dinode.Dinode.{Dinode}
+use Rattle.o2_model.specs.declared.check.Check.{Check}
+use Rattle.o2_model.specs.declared.check.Check.TheVariants as checks
+use Rattle.o2_model.specs.Words.{IsLeast}
+use Rattle.o2_model.specs.Volume.{Volume, dinode, is_valid}
+use Rattle.o2_model.specs.Inodes.{kind, is_directory, is_directory_kind, is_file, is_file_kind, is_link}
+use Rattle.o2_model.specs.Checks.Extent.{extent_faults}
+use Rattle.o2_model.specs.Checks.DirBlock.{dir_block_faults}
+use Rattle.o2_dir.specs.Fails.{FailsNone, FailsFirst}
+use Rattle.o2_dir.specs.FileData.{HasBytes, DataFailsFirst}
+use Rattle.o2_debug.specs.declared.query.Query.TheVariants.{Ls, Stat, Cat}
+use Rattle.o2_debug.specs.Objects.{IsSound}
+use Rattle.o2_debug.specs.Answers.{Answers, IsOfOtherKind, FailsFor}
+use Rattle.o2_debug.specs.Taken.{Takes}
+use Rattle.o2_debug.specs.Texts.{ls_text, stat_text, cat_text}
+
+-- nothing is the least of none
+no_least : (b : ℕ) → IsLeast b [] → ⊥
+no_least b least = let none : false ≡ true = least.is_among in cc none
+
+-- of a sound directory only its blocks fail
+blocks_alone : (v : Volume) (d : ℕ) (check : Check) (at : ℕ) → IsSound v d → FailsFirst v d check at → (check ≡ checks.DirBlock) × IsLeast at (dir_block_faults v d)
+blocks_alone v d checks.Extent at sound fails = absurd (no_least at (subst (IsLeast at) sound.extent fails))
+blocks_alone v d checks.InodeSize at sound fails = absurd (no_least at (subst (IsLeast at) sound.size fails.1))
+blocks_alone v d checks.DirBlock at sound fails = (refl, fails.2)
+blocks_alone v d _ at sound fails = absurd fails
+
+-- and nothing of a sound file
+pub data_holds : (v : Volume) (b : ℕ) (check : Check) (at : ℕ) → IsSound v b → DataFailsFirst v b check at → ⊥
+data_holds v b checks.Extent at sound fails = no_least at (subst (IsLeast at) sound.extent fails)
+data_holds v b checks.InodeSize at sound fails = no_least at (subst (IsLeast at) sound.size fails.1)
+data_holds v b _ at sound fails = fails
+
+pub extents_hold : (v : Volume) (b at : ℕ) → IsSound v b → IsLeast at (extent_faults v b) → ⊥
+extents_hold v b at sound least = no_least at (subst (IsLeast at) sound.extent least)
+
+module _ (v : Volume) (b : ℕ) (d : Dinode) (is : d ≡ dinode v b) where
+  pub directory_kind : (test : Bool) → is_directory_kind (kind_of_mode d.mode) ≡ test → is_directory_kind (kind v b) ≡ test
+  directory_kind test told = ap (λ (e : Dinode). is_directory_kind (kind_of_mode e.mode)) (sym is) ∙ told
+
+  pub file_kind : (test : Bool) → is_file_kind (kind_of_mode d.mode) ≡ test → is_file_kind (kind v b) ≡ test
+  file_kind test told = ap (λ (e : Dinode). is_file_kind (kind_of_mode e.mode)) (sym is) ∙ told
+
+pub is_directory_of : (v : Volume) (b : ℕ) → is_directory_kind (kind v b) ≡ true → is_directory v b ≡ true
+unfolding is_directory
+is_directory_of v b is = is
+
+pub file_has_bytes : (v : Volume) (b : ℕ) → is_valid v b ≡ true → is_file_kind (kind v b) ≡ true → HasBytes v b
+unfolding is_file is_link
+file_has_bytes v b valid is = record { valid = valid; kind = rw is refl }
+
+module _ (v : Volume) (b : ℕ) (path : List ℕ) (sound : IsSound v b) where
+  pub ls_answers : {old new : SinkState} → is_directory_kind (kind v b) ≡ true → FailsNone v b → Takes old new (ls_text v b) → Answers (Ls path) v b old new
+  ls_answers is none takes = record { sound = sound; kind = is; entries = none.blocks; taken = takes }
+
+  pub ls_fails : (check : Check) (at : ℕ) → is_directory_kind (kind v b) ≡ true → FailsFirst v b check at → FailsFor (Ls path) v b check at
+  ls_fails check at is fails =
+      let alone = blocks_alone v b check at sound fails in
+      inr (alone.0, record { sound = sound; kind = is; least = alone.1 })
+
+  pub no_directory : is_directory_kind (kind v b) ≡ false → IsOfOtherKind (Ls path) v b
+  no_directory is = record { sound = sound; kind = is }
+
+  pub stat_answers : {old new : SinkState} → Takes old new (stat_text v b) → Answers (Stat path) v b old new
+  stat_answers takes = record { sound = sound; kind = refl; entries = tt; taken = takes }
+
+  pub cat_answers : {old new : SinkState} → is_file_kind (kind v b) ≡ true → Takes old new (cat_text v b) → Answers (Cat path) v b old new
+  cat_answers is takes = record { sound = sound; kind = is; entries = tt; taken = takes }
+
+  pub no_file : is_file_kind (kind v b) ≡ false → IsOfOtherKind (Cat path) v b
+  no_file is = record { sound = sound; kind = is }

@@ -1,0 +1,31 @@
+-- What was put before a fault, and a piece more.
+use Rattle.std.proofs.Common.{arith, ◌∙◌}
+use Rattle.o2_extent.specs.Seen.{volume_seen}
+use Rattle.o2_extent.proofs.Views.{only_both}
+use Rattle.o2_debug.proofs.CatLemmas.{so_far, at_end, piece_more, some_more}
+use Rattle.o2_debug.proofs.cat.put_file.Goals as goal
+
+pub returns-in-Err-clause-some : goal.returns-in-Err-clause-some
+returns-in-Err-clause-some g c I told = so_far (volume_seen c.args.geo.now I) c.args.inode c.loop-at.at (c.loop-at.invariant.taken I told)
+
+pub returns-in_default-clause-some : goal.returns-in_default-clause-some
+returns-in_default-clause-some g c I told =
+    let v = volume_seen c.args.geo.now I in
+    some_more v c.args.inode c.loop-at.at (c.loop-at.invariant.taken I told) (g.K.Sink.state c.put_text.new.out) c.min-count.result c.as_slice.result.now
+    (c.as_slice.ensures ∙ c.in-Ok.ensures.bytes I (c.loop-at.invariant.reads.reads.content ∙ told)) c.put_text.ensures.some
+
+pub loop-at-preserved : goal.loop-at-preserved
+loop-at-preserved g c = record {
+  within = omega (arith, c.loop-at-test.true, c.min-count.ensures);
+  taken = λ I told.
+      piece_more (volume_seen c.args.geo.now I) c.args.inode c.loop-at.at (c.loop-at.invariant.taken I told) (g.K.Sink.state c.put_text.new.out) c.min-count.result c.as_slice.result.now
+      (c.as_slice.ensures ∙ c.in-Ok.ensures.bytes I (c.loop-at.invariant.reads.reads.content ∙ told)) c.in-Ok-put_text.ensures.all;
+  reads = only_both c.loop-at.invariant.reads c.read_bytes.ensures.reads;
+  faults = c.in-Ok-put_text.ensures.cause.ok ∙ c.loop-at.invariant.faults;
+}
+
+pub returns-clause-all : goal.returns-clause-all
+returns-clause-all g c I told = at_end (volume_seen c.args.geo.now I) c.args.inode c.loop-at.at (c.loop-at.invariant.taken I told) c.args.size (c.requires.size I told) (omega (arith, c.loop-at-test.false))
+
+pub returns-clause-some : goal.returns-clause-some
+returns-clause-some g c I told = so_far (volume_seen c.args.geo.now I) c.args.inode c.loop-at.at (c.loop-at.invariant.taken I told)

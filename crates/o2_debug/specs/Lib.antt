@@ -1,0 +1,7 @@
+pub mod Taken
+pub mod Answers
+pub mod Commands
+pub mod Faults
+pub mod Lines
+pub mod Objects
+pub mod Texts

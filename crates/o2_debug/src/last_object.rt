@@ -1,0 +1,158 @@
+// The answer to a query, for the inode at the end of its path.
+ghost use Rattle.std.specs.Prelude.{◌≡◌, ◌<◌, ℕ, List, true, Some, OnOk, IsErrOf};
+ghost use Rattle.std.specs.Result.{IfErr};
+ghost use Rattle.o2_disk.specs.Image.{Image};
+ghost use Rattle.o2_disk.specs.Device.{Rose};
+ghost use Rattle.o2_view.specs.Views.{view_state, view_blocks};
+ghost use Rattle.o2_model.specs.declared.check.Check.{Check};
+ghost use Rattle.o2_model.specs.Volume.{is_valid};
+ghost use Rattle.o2_extent.specs.Seen.{LiesIn, volume_seen};
+ghost use Rattle.o2_extent.specs.Reads.{OnlyReads};
+ghost use Rattle.o2_debug.specs.declared.query.Query.TheVariants.{Ls, Stat, Cat};
+ghost use Rattle.o2_debug.specs.Answers.{IsOfOtherKind, FailsFor, Answers, text_of};
+ghost use Rattle.o2_debug.specs.Taken.{TakesSome};
+
+use crate::cat::put_file;
+use crate::object::{is_of_directory, is_of_file, judge};
+use crate::put::{put_ls, put_stat};
+use crate::{DebugFault, Query};
+use o2_disk::{Disk, Sink};
+use o2_model::Geo;
+use o2_view::View;
+use std::alloc::Global;
+
+/// Answers `ls` for the inode.
+fn answer_ls<D: Disk, K: Sink, const N: usize>(
+    alloc: Global,
+    view: &mut View<'_, D, N>,
+    geo: &Geo,
+    inode: u64,
+    out: &mut K,
+) -> Result<(), DebugFault>
+    requires geo { LiesIn geo.now view.old }
+    requires inode { inode < view_blocks view.old }
+    requires sysdir { geo.now.sysdir < view_blocks view.old }
+    requires valid { (I : Image) → (view_state view.old).content ≡ Some I → is_valid (volume_seen geo.now I) inode ≡ true }
+    ensures all { (path : List ℕ) → OnOk result ((I : Image) → (view_state view.old).content ≡ Some I → Answers (Ls path) (volume_seen geo.now I) inode (K.state out.old) (K.state out.new)) }
+    ensures some { (path : List ℕ) (I : Image) → (view_state view.old).content ≡ Some I → TakesSome (K.state out.old) (K.state out.new) (text_of (Ls path) (volume_seen geo.now I) inode) }
+    ensures bad { (path : List ℕ) → IfErr result (λ fault. (check : Check) (b : ℕ) → fault ≡ DebugFault.Bad check b → (I : Image) → (view_state view.old).content ≡ Some I
+        → FailsFor (Ls path) (volume_seen geo.now I) inode check b) }
+    ensures untouched { IfErr result (λ fault. (check : Check) (b : ℕ) → fault ≡ DebugFault.Bad check b → (I : Image) → (view_state view.old).content ≡ Some I → out.new ≡ out.old) }
+    ensures kind { (path : List ℕ) → IsErrOf result DebugFault.WrongKind → (I : Image) → (view_state view.old).content ≡ Some I → IsOfOtherKind (Ls path) (volume_seen geo.now I) inode }
+    ensures unasked { IsErrOf result DebugFault.WrongKind → out.new ≡ out.old }
+    ensures absent { IsErrOf result DebugFault.Absent → ⊥ }
+    ensures reads { OnlyReads view.old view.new }
+    ensures fault { IsErrOf result DebugFault.DeviceFault → Rose (view_state view.old).faults (view_state view.new).faults }
+    ensures output { IsErrOf result DebugFault.OutputFault → Rose (K.state out.old).faults (K.state out.new).faults }
+    ensures quiet { (IsErrOf result DebugFault.OutputFault → ⊥) → (K.state out.new).faults ≡ (K.state out.old).faults }
+{
+    let d = match judge(alloc, view, geo, inode) {
+        Ok(d) => d,
+        Err(fault) => return Err(DebugFault::from(fault)),
+    };
+    if !is_of_directory(&d) {
+        return Err(DebugFault::WrongKind);
+    }
+    put_ls(alloc, view, geo, inode, out)
+}
+
+/// Answers `stat` for the inode.
+fn answer_stat<D: Disk, K: Sink, const N: usize>(
+    alloc: Global,
+    view: &mut View<'_, D, N>,
+    geo: &Geo,
+    inode: u64,
+    out: &mut K,
+) -> Result<(), DebugFault>
+    requires geo { LiesIn geo.now view.old }
+    requires inode { inode < view_blocks view.old }
+    requires sysdir { geo.now.sysdir < view_blocks view.old }
+    requires valid { (I : Image) → (view_state view.old).content ≡ Some I → is_valid (volume_seen geo.now I) inode ≡ true }
+    ensures all { (path : List ℕ) → OnOk result ((I : Image) → (view_state view.old).content ≡ Some I → Answers (Stat path) (volume_seen geo.now I) inode (K.state out.old) (K.state out.new)) }
+    ensures some { (path : List ℕ) (I : Image) → (view_state view.old).content ≡ Some I → TakesSome (K.state out.old) (K.state out.new) (text_of (Stat path) (volume_seen geo.now I) inode) }
+    ensures bad { (path : List ℕ) → IfErr result (λ fault. (check : Check) (b : ℕ) → fault ≡ DebugFault.Bad check b → (I : Image) → (view_state view.old).content ≡ Some I
+        → FailsFor (Stat path) (volume_seen geo.now I) inode check b) }
+    ensures untouched { IfErr result (λ fault. (check : Check) (b : ℕ) → fault ≡ DebugFault.Bad check b → (I : Image) → (view_state view.old).content ≡ Some I → out.new ≡ out.old) }
+    ensures kind { IsErrOf result DebugFault.WrongKind → ⊥ }
+    ensures unasked { IsErrOf result DebugFault.WrongKind → out.new ≡ out.old }
+    ensures absent { IsErrOf result DebugFault.Absent → ⊥ }
+    ensures reads { OnlyReads view.old view.new }
+    ensures fault { IsErrOf result DebugFault.DeviceFault → Rose (view_state view.old).faults (view_state view.new).faults }
+    ensures output { IsErrOf result DebugFault.OutputFault → Rose (K.state out.old).faults (K.state out.new).faults }
+    ensures quiet { (IsErrOf result DebugFault.OutputFault → ⊥) → (K.state out.new).faults ≡ (K.state out.old).faults }
+{
+    let d = match judge(alloc, view, geo, inode) {
+        Ok(d) => d,
+        Err(fault) => return Err(DebugFault::from(fault)),
+    };
+    put_stat(alloc, view, geo, inode, &d, out)
+}
+
+/// Answers `cat` for the inode.
+fn answer_cat<D: Disk, K: Sink, const N: usize>(
+    alloc: Global,
+    view: &mut View<'_, D, N>,
+    geo: &Geo,
+    inode: u64,
+    out: &mut K,
+) -> Result<(), DebugFault>
+    requires geo { LiesIn geo.now view.old }
+    requires inode { inode < view_blocks view.old }
+    requires sysdir { geo.now.sysdir < view_blocks view.old }
+    requires valid { (I : Image) → (view_state view.old).content ≡ Some I → is_valid (volume_seen geo.now I) inode ≡ true }
+    ensures all { (path : List ℕ) → OnOk result ((I : Image) → (view_state view.old).content ≡ Some I → Answers (Cat path) (volume_seen geo.now I) inode (K.state out.old) (K.state out.new)) }
+    ensures some { (path : List ℕ) (I : Image) → (view_state view.old).content ≡ Some I → TakesSome (K.state out.old) (K.state out.new) (text_of (Cat path) (volume_seen geo.now I) inode) }
+    ensures bad { (path : List ℕ) → IfErr result (λ fault. (check : Check) (b : ℕ) → fault ≡ DebugFault.Bad check b → (I : Image) → (view_state view.old).content ≡ Some I
+        → FailsFor (Cat path) (volume_seen geo.now I) inode check b) }
+    ensures untouched { IfErr result (λ fault. (check : Check) (b : ℕ) → fault ≡ DebugFault.Bad check b → (I : Image) → (view_state view.old).content ≡ Some I → out.new ≡ out.old) }
+    ensures kind { (path : List ℕ) → IsErrOf result DebugFault.WrongKind → (I : Image) → (view_state view.old).content ≡ Some I → IsOfOtherKind (Cat path) (volume_seen geo.now I) inode }
+    ensures unasked { IsErrOf result DebugFault.WrongKind → out.new ≡ out.old }
+    ensures absent { IsErrOf result DebugFault.Absent → ⊥ }
+    ensures reads { OnlyReads view.old view.new }
+    ensures fault { IsErrOf result DebugFault.DeviceFault → Rose (view_state view.old).faults (view_state view.new).faults }
+    ensures output { IsErrOf result DebugFault.OutputFault → Rose (K.state out.old).faults (K.state out.new).faults }
+    ensures quiet { (IsErrOf result DebugFault.OutputFault → ⊥) → (K.state out.new).faults ≡ (K.state out.old).faults }
+{
+    let d = match judge(alloc, view, geo, inode) {
+        Ok(d) => d,
+        Err(fault) => return Err(DebugFault::from(fault)),
+    };
+    if !is_of_file(&d) {
+        return Err(DebugFault::WrongKind);
+    }
+    put_file(alloc, view, geo, inode, d.size, out)
+}
+
+/// Answers a query for the inode at the end of its path. Bad where INODE_KIND, EXTENT or INODE_SIZE fails for it, or DIR_BLOCK where
+/// entries are asked for, and then WrongKind where it is of another kind than is asked for.
+pub fn answer<D: Disk, K: Sink, const N: usize>(
+    alloc: Global,
+    view: &mut View<'_, D, N>,
+    geo: &Geo,
+    query: &Query,
+    inode: u64,
+    out: &mut K,
+) -> Result<(), DebugFault>
+    requires geo { LiesIn geo.now view.old }
+    requires inode { inode < view_blocks view.old }
+    requires sysdir { geo.now.sysdir < view_blocks view.old }
+    requires valid { (I : Image) → (view_state view.old).content ≡ Some I → is_valid (volume_seen geo.now I) inode ≡ true }
+    ensures all { OnOk result ((I : Image) → (view_state view.old).content ≡ Some I → Answers query.now (volume_seen geo.now I) inode (K.state out.old) (K.state out.new)) }
+    ensures some { (I : Image) → (view_state view.old).content ≡ Some I → TakesSome (K.state out.old) (K.state out.new) (text_of query.now (volume_seen geo.now I) inode) }
+    ensures bad { IfErr result (λ fault. (check : Check) (b : ℕ) → fault ≡ DebugFault.Bad check b → (I : Image) → (view_state view.old).content ≡ Some I
+        → FailsFor query.now (volume_seen geo.now I) inode check b) }
+    ensures untouched { IfErr result (λ fault. (check : Check) (b : ℕ) → fault ≡ DebugFault.Bad check b → (I : Image) → (view_state view.old).content ≡ Some I → out.new ≡ out.old) }
+    ensures kind { IsErrOf result DebugFault.WrongKind → (I : Image) → (view_state view.old).content ≡ Some I → IsOfOtherKind query.now (volume_seen geo.now I) inode }
+    ensures unasked { IsErrOf result DebugFault.WrongKind → out.new ≡ out.old }
+    ensures absent { IsErrOf result DebugFault.Absent → ⊥ }
+    ensures reads { OnlyReads view.old view.new }
+    ensures fault { IsErrOf result DebugFault.DeviceFault → Rose (view_state view.old).faults (view_state view.new).faults }
+    ensures output { IsErrOf result DebugFault.OutputFault → Rose (K.state out.old).faults (K.state out.new).faults }
+    ensures quiet { (IsErrOf result DebugFault.OutputFault → ⊥) → (K.state out.new).faults ≡ (K.state out.old).faults }
+{
+    match query {
+        Query::Ls { .. } => answer_ls(alloc, view, geo, inode, out),
+        Query::Stat { .. } => answer_stat(alloc, view, geo, inode, out),
+        Query::Cat { .. } => answer_cat(alloc, view, geo, inode, out),
+    }
+}

@@ -1,0 +1,40 @@
+-- What a command read from words says of them.
+use Rattle.std.specs.Prelude.{◌≡◌, ℕ, List, [], slice_index_or}
+use Rattle.o2_debug.specs.declared.query.Query.{Query}
+use Rattle.o2_tools.specs.declared.cause.Cause.{Cause}
+use Rattle.o2_tools.specs.declared.cause.Cause.TheVariants as cause
+use Rattle.o2_tools.specs.declared.command.Command.{Command}
+use Rattle.o2_tools.specs.declared.command.Command.TheVariants.{Label, Debug}
+use Rattle.o2_tools.specs.declared.command.WordFault.{WordFault}
+use Rattle.o2_tools.specs.declared.command.WordFault.TheVariants as fault
+use Rattle.o2_tools.specs.declared.query_word.Asked.{Asked}
+use Rattle.o2_tools.specs.CommandLine.{Words, IsLabelLine, IsDebugLine, word_of, device_of}
+use Rattle.o2_tools.specs.QueryWords.{Asks}
+use Rattle.o2_tools.specs.AskedWords.{IsAsked}
+
+-- the cause of the same name
+abbrev pub cause_of_words : WordFault → Cause
+cause_of_words fault.NoMemory = cause.NoMemory
+cause_of_words (fault.Usage place) = cause.Usage place
+cause_of_words fault.Later = cause.Later
+
+-- the words are a command line of tunefs that gives this label, and their device stands at this place
+pub record ReadsLabel (label : List ℕ) (device : ℕ) (words : Words) : Type 0 where
+  pub place : device ≡ 3
+  pub line : IsLabelLine label (device_of words) words
+
+-- the words are a command line of debugfs that asks for this, and their device stands at this place
+pub record ReadsQuery (query : Query) (device : ℕ) (words : Words) : Type 0 where
+  pub place : device ≡ 3
+  pub line : IsDebugLine (word_of words) (device_of words) words
+  pub asks : Asks query (word_of words)
+
+-- the words say this command
+abbrev pub Says : Command → Words → Type 0
+Says (Label label device) words = ReadsLabel label device words
+Says (Debug query device) words = ReadsQuery query device words
+
+-- the words are a command line of debugfs, and this was read of the word that asks
+pub record ReadsAsked (asked : Asked) (words : Words) : Type 0 where
+  pub line : IsDebugLine (word_of words) (device_of words) words
+  pub asks : IsAsked asked (word_of words)
