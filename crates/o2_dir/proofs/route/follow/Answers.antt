@@ -1,7 +1,7 @@
 -- One name less.
-use Rattle.std.proofs.Common.{◌≡◌, ◌≢◌, inl, inr, ℕ, ◌+◌, ◌<◌, ◌≤◌, true, false, List, [], length, take, drop, refl, sym, ◌∙◌, ap, subst, arith}
+use Rattle.std.proofs.Common.{ℕ, List, refl, sym, ◌∙◌, subst, arith}
 use Rattle.o2_extent.specs.Seen.{volume_seen}
-use Rattle.o2_extent.proofs.Views.{only_none, only_both, still_in}
+use Rattle.o2_extent.proofs.Views.{only_none, only_both}
 use Rattle.o2_dir.proofs.PathWays.{Remains, all_remain, one_less, lacks_here, kind_here, fails_here, none_left, empty_is, some_are, rest_behind}
 use Rattle.o2_dir.proofs.route.follow.Goals as goal
 

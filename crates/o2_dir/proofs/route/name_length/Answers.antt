@@ -1,5 +1,5 @@
 -- The first slash, or the end.
-use Rattle.std.proofs.Common.{◌≡◌, inl, inr, ℕ, ◌<◌, ◌==◌, true, false, get_or, sym, arith, rules}
+use Rattle.std.proofs.Common.{◌==◌, sym, arith}
 use Rattle.std.proofs.lemmas.List.Sums.{position_or_len_is}
 use Rattle.o2_dir.proofs.PathWays.{none_so_far, none_to, is_slash}
 use Rattle.o2_dir.proofs.route.name_length.Goals as goal

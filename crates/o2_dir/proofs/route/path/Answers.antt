@@ -1,5 +1,5 @@
 -- The path's names are those of its text behind the slashes at its front.
-use Rattle.std.proofs.Common.{◌≡◌, ℕ, sym, subst}
+use Rattle.std.proofs.Common.{ℕ, sym, subst}
 use Rattle.std.proofs.lemmas.Result.{IfOk-weaker, IfErr-weaker}
 use Rattle.o2_extent.specs.Seen.{volume_seen}
 use Rattle.o2_dir.specs.Paths.{Leads, OnTheWay, Lacks, IsNoDirectory, FailsAt}
