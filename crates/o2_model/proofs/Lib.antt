@@ -18,3 +18,5 @@ pub mod LogReadings
 pub mod SameContents
 pub mod SameAllocators
 pub mod BitPlaces
+pub mod Found
+pub mod OwnedBlocks
