@@ -20,3 +20,6 @@ pub mod SameAllocators
 pub mod BitPlaces
 pub mod Found
 pub mod OwnedBlocks
+pub mod GoodGroups
+pub mod GroupsOwned
+pub mod BitsOwned

@@ -1,9 +1,16 @@
 // Laws of the blocks that carry meaning, each the contract of a function that does nothing.
-ghost use Rattle.std.specs.Prelude.{◌≡◌, ℕ, true};
+ghost use Rattle.std.specs.Prelude.{◌≡◌, ◌<◌, ◌≤◌, ◌+◌, ℕ, [], true, false};
 ghost use Rattle.std.specs.List.{Contains};
+ghost use Rattle.o2_model.specs.declared.allocator.Group.{Group};
 ghost use Rattle.o2_model.specs.declared.claim.Claim.{Claim};
 ghost use Rattle.o2_model.specs.Volume.{Volume};
 ghost use Rattle.o2_model.specs.Clusters.{cluster_of};
+ghost use Rattle.o2_model.specs.Groups.{groups, is_of_clusters, is_inode};
+ghost use Rattle.o2_model.specs.Frames.{has_bit};
+ghost use Rattle.o2_model.specs.Metadata.{metadata_blocks};
+ghost use Rattle.o2_model.specs.Words.{among};
+ghost use Rattle.o2_model.specs.Checks.MetaBlock.{meta_block_faults};
+ghost use Rattle.o2_model.specs.Walked.{IsGoodGroup};
 ghost use Rattle.o2_model.specs.Claims.{structure_claims, inode_claims, claims_of};
 ghost use Rattle.o2_model.specs.Owned.{needs_bytes, is_owned};
 
@@ -14,4 +21,24 @@ pub fn claimed_blocks_are_owned()
     ensures inodes { (v : Volume) (k : Claim) → Contains (inode_claims v) k → Contains (claims_of v) k }
     ensures owned { (v : Volume) (k : Claim) (b : ℕ) → Contains (claims_of v) k → k.cluster ≡ cluster_of v b → needs_bytes v k.owner b ≡ true
         → is_owned v b ≡ true }
+{}
+
+/// A law: each group that the walk reaches is good, its descriptor is owned, and so are all blocks of a group of blocks.
+pub fn blocks_of_groups_are_owned()
+    ensures good { (v : Volume) (g : Group) → Contains (groups v) g → IsGoodGroup v g }
+    ensures descriptor { (v : Volume) (g : Group) → Contains (groups v) g → is_owned v g.block ≡ true }
+    ensures blocks { (v : Volume) (g : Group) (k : ℕ) → Contains (groups v) g → is_of_clusters g ≡ false → k < g.bits → is_owned v (g.block + k) ≡ true }
+{}
+
+/// A law: each block of the clusters up to that of the first group is owned, with the superblock among them.
+pub fn first_blocks_are_owned()
+    ensures { (v : Volume) (b : ℕ) → cluster_of v b ≤ cluster_of v v.geo.first_group → is_owned v b ≡ true }
+{}
+
+/// A law: each block that stands on a set bit of a group of inodes is owned, and so is each dinode. Where META_BLOCK holds,
+/// so are the extent blocks of all inodes and the blocks of refcount trees.
+pub fn dinodes_and_extent_blocks_are_owned()
+    ensures bit { (v : Volume) (b : ℕ) → has_bit v b ≡ true → is_owned v b ≡ true }
+    ensures dinode { (v : Volume) (b : ℕ) → is_inode v b ≡ true → is_owned v b ≡ true }
+    ensures metadata { (v : Volume) (b : ℕ) → meta_block_faults v ≡ [] → among (metadata_blocks v) b ≡ true → is_owned v b ≡ true }
 {}
