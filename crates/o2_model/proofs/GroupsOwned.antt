@@ -85,7 +85,7 @@ group_owned v g b is blocks_of low high =
 
 -- ---- numbers
 -- block k of whole clusters
-cluster_in : (p b n k : ℕ) → 0 < p → b % p ≡ 0 → n % p ≡ 0 → k < n → (b / p ≤ (b + k) / p) × ((b + k) / p < b / p + n / p)
+pub cluster_in : (p b n k : ℕ) → 0 < p → b % p ≡ 0 → n % p ≡ 0 → k < n → (b / p ≤ (b + k) / p) × ((b + k) / p < b / p + n / p)
 cluster_in p b n k some whole whole' inside =
     let at : (p * (b / p) + k) / p ≡ b / p + k / p = mul-add-div some (b / p) k in
     let first : p * (b / p) ≡ b = omega (arith, some, whole) in

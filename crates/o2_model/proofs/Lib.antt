@@ -23,3 +23,5 @@ pub mod OwnedBlocks
 pub mod GoodGroups
 pub mod GroupsOwned
 pub mod BitsOwned
+pub mod WellRead
+pub mod DataOwned

@@ -1,12 +1,16 @@
 // Laws of the blocks that carry meaning, each the contract of a function that does nothing.
-ghost use Rattle.std.specs.Prelude.{◌≡◌, ◌<◌, ◌≤◌, ◌+◌, ℕ, [], true, false};
+ghost use Rattle.std.specs.Prelude.{◌≡◌, ◌<◌, ◌≤◌, ◌+◌, ℕ, [], map, flat_map, true, false};
 ghost use Rattle.std.specs.List.{Contains};
 ghost use Rattle.o2_model.specs.declared.allocator.Group.{Group};
 ghost use Rattle.o2_model.specs.declared.claim.Claim.{Claim};
 ghost use Rattle.o2_model.specs.Volume.{Volume};
 ghost use Rattle.o2_model.specs.Clusters.{cluster_of};
 ghost use Rattle.o2_model.specs.Groups.{groups, is_of_clusters, is_inode};
-ghost use Rattle.o2_model.specs.Frames.{has_bit};
+ghost use Rattle.o2_model.specs.Frames.{has_bit, content_blocks};
+ghost use Rattle.o2_model.specs.Journals.{journals};
+ghost use Rattle.o2_model.specs.Inodes.{leaf_records};
+ghost use Rattle.o2_model.specs.LeafRecords.{blocks_under};
+ghost use Rattle.o2_model.specs.Directories.{dir_blocks};
 ghost use Rattle.o2_model.specs.Metadata.{metadata_blocks};
 ghost use Rattle.o2_model.specs.Words.{among};
 ghost use Rattle.o2_model.specs.Checks.MetaBlock.{meta_block_faults};
@@ -41,4 +45,14 @@ pub fn dinodes_and_extent_blocks_are_owned()
     ensures bit { (v : Volume) (b : ℕ) → has_bit v b ≡ true → is_owned v b ≡ true }
     ensures dinode { (v : Volume) (b : ℕ) → is_inode v b ≡ true → is_owned v b ≡ true }
     ensures metadata { (v : Volume) (b : ℕ) → meta_block_faults v ≡ [] → among (metadata_blocks v) b ≡ true → is_owned v b ≡ true }
+{}
+
+/// A law: the blocks of an inode's clusters are owned, where it is no journal: those that its contents stand in, and those
+/// of a directory. Of a journal only the first block counts.
+pub fn data_blocks_are_owned()
+    ensures data { (v : Volume) (i b : ℕ) → is_inode v i ≡ true → among (journals v) i ≡ false → among (flat_map (blocks_under v) (leaf_records v i)) b ≡ true
+        → is_owned v b ≡ true }
+    ensures contents { (v : Volume) (i b : ℕ) → is_inode v i ≡ true → among (journals v) i ≡ false → among (content_blocks v i) b ≡ true → is_owned v b ≡ true }
+    ensures directories { (v : Volume) (d b : ℕ) → is_inode v d ≡ true → among (journals v) d ≡ false → among (map (λ x. x.block) (dir_blocks v d)) b ≡ true
+        → is_owned v b ≡ true }
 {}
