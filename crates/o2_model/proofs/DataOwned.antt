@@ -36,7 +36,7 @@ unfolding is_inode
 inode_in v i h = inode_below v i (and_parts (is_valid v i) (has_bit v i) h).0
 
 -- a test that an inode passes finds one
-among_inodes : (v : Volume) (i : ℕ) (p : ℕ → Bool) → is_inode v i ≡ true → p i ≡ true → list_any p (inodes_of v) ≡ true
+pub among_inodes : (v : Volume) (i : ℕ) (p : ℕ → Bool) → is_inode v i ≡ true → p i ≡ true → list_any p (inodes_of v) ≡ true
 unfolding inodes_of
 among_inodes v i p is h =
     any_filter p (is_inode v) (range_with_len 0 (blocks v)) ∙ any_range (λ b. is_inode v b && p b) 0 (blocks v) i (omega arith) (omega (arith, inode_in v i is)) (and_from _ _ is h)

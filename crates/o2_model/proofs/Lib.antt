@@ -25,3 +25,4 @@ pub mod GroupsOwned
 pub mod BitsOwned
 pub mod WellRead
 pub mod DataOwned
+pub mod OwnedTells

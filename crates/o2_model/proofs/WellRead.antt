@@ -11,7 +11,6 @@ use Rattle.o2_model.specs.Volume.{Volume, per_cluster}
 use Rattle.o2_model.specs.Clusters.{are_clusters_in_range}
 use Rattle.o2_model.specs.Extents.{Extents, leaf_clusters, list_in_block, with_leaf, with_seen, with_fault, end_of, is_sound_header, is_extent_block, is_sound_leaf, names_new_block, most_in_block, with_met, records_in_block, read_records, nothing_read, extent_list}
 use Rattle.o2_model.specs.Inodes.{extents, has_list, most_flags, most_in_dinode, extent_lists_of, leaf_records, records_of, extent_blocks_of}
-use Rattle.o2_model.specs.Checks.Extent.{extent_faults}
 use Rattle.o2_model.proofs.Readings.{push_some}
 
 -- the record begins with the first block of a cluster
@@ -101,6 +100,3 @@ records_are v b = one_list v b (λ t. t.leaves) refl
 
 pub extent_blocks_are : (v : Volume) (b : ℕ) → extent_blocks_of v b ≡ (extents v b).blocks
 extent_blocks_are v b = one_list v b (λ t. t.blocks) refl
-
-pub extent_faults_are : (v : Volume) (b : ℕ) → extent_faults v b ≡ (extents v b).faults
-extent_faults_are v b = one_list v b (λ t. t.faults) refl

@@ -40,3 +40,4 @@ pub mod Owned
 pub mod Frames
 pub mod Intact
 pub mod Walked
+pub mod Agrees

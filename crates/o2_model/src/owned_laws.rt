@@ -1,16 +1,20 @@
 // Laws of the blocks that carry meaning, each the contract of a function that does nothing.
-ghost use Rattle.std.specs.Prelude.{◌≡◌, ◌<◌, ◌≤◌, ◌+◌, ℕ, [], map, flat_map, true, false};
+ghost use Rattle.std.specs.Prelude.{◌≡◌, ◌<◌, ◌≤◌, ◌+◌, ℕ, List, [], map, flat_map, true, false};
 ghost use Rattle.std.specs.List.{Contains};
 ghost use Rattle.o2_model.specs.declared.allocator.Group.{Group};
 ghost use Rattle.o2_model.specs.declared.claim.Claim.{Claim};
-ghost use Rattle.o2_model.specs.Volume.{Volume};
+ghost use Rattle.o2_model.specs.Volume.{Volume, over};
 ghost use Rattle.o2_model.specs.Clusters.{cluster_of};
 ghost use Rattle.o2_model.specs.Groups.{groups, is_of_clusters, is_inode};
 ghost use Rattle.o2_model.specs.Frames.{has_bit, content_blocks};
 ghost use Rattle.o2_model.specs.Journals.{journals};
-ghost use Rattle.o2_model.specs.Inodes.{leaf_records};
+ghost use Rattle.o2_model.specs.Inodes.{extents, leaf_records};
 ghost use Rattle.o2_model.specs.LeafRecords.{blocks_under};
-ghost use Rattle.o2_model.specs.Directories.{dir_blocks};
+ghost use Rattle.o2_model.specs.Directories.{dir_blocks, directory_entries};
+ghost use Rattle.o2_model.specs.Contents.{content_of};
+ghost use Rattle.o2_model.specs.Files.{file_of};
+ghost use Rattle.o2_model.specs.Failing.{failing};
+ghost use Rattle.o2_model.specs.Agrees.{AgreesOnOwned};
 ghost use Rattle.o2_model.specs.Metadata.{metadata_blocks};
 ghost use Rattle.o2_model.specs.Words.{among};
 ghost use Rattle.o2_model.specs.Checks.MetaBlock.{meta_block_faults};
@@ -55,4 +59,17 @@ pub fn data_blocks_are_owned()
     ensures contents { (v : Volume) (i b : ℕ) → is_inode v i ≡ true → among (journals v) i ≡ false → among (content_blocks v i) b ≡ true → is_owned v b ≡ true }
     ensures directories { (v : Volume) (d b : ℕ) → is_inode v d ≡ true → among (journals v) d ≡ false → among (map (λ x. x.block) (dir_blocks v d)) b ≡ true
         → is_owned v b ≡ true }
+{}
+
+/// A law: where nothing fails, blocks that agree on the owned ones have the same extents of each inode, and the same
+/// entries, contents and file of each that is no journal.
+pub fn owned_blocks_tell_inodes()
+    ensures extents { (v : Volume) (at : ℕ → List ℕ) (i : ℕ) → failing v ≡ [] → AgreesOnOwned v at → is_inode v i ≡ true
+        → extents (over v at) i ≡ extents v i }
+    ensures entries { (v : Volume) (at : ℕ → List ℕ) (d : ℕ) → failing v ≡ [] → AgreesOnOwned v at → is_inode v d ≡ true → among (journals v) d ≡ false
+        → directory_entries (over v at) d ≡ directory_entries v d }
+    ensures content { (v : Volume) (at : ℕ → List ℕ) (i : ℕ) → failing v ≡ [] → AgreesOnOwned v at → is_inode v i ≡ true → among (journals v) i ≡ false
+        → content_of (over v at) i ≡ content_of v i }
+    ensures file { (v : Volume) (at : ℕ → List ℕ) (i : ℕ) → failing v ≡ [] → AgreesOnOwned v at → is_inode v i ≡ true → among (journals v) i ≡ false
+        → file_of (over v at) i ≡ file_of v i }
 {}
