@@ -26,3 +26,4 @@ pub mod BitsOwned
 pub mod WellRead
 pub mod DataOwned
 pub mod OwnedTells
+pub mod SystemOwned

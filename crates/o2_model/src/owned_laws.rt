@@ -1,20 +1,22 @@
 // Laws of the blocks that carry meaning, each the contract of a function that does nothing.
-ghost use Rattle.std.specs.Prelude.{◌≡◌, ◌<◌, ◌≤◌, ◌+◌, ℕ, List, [], map, flat_map, true, false};
+ghost use Rattle.std.specs.Prelude.{◌≡◌, ◌<◌, ◌≤◌, ◌+◌, ℕ, List, [], map, flat_map, Some, true, false};
 ghost use Rattle.std.specs.List.{Contains};
 ghost use Rattle.o2_model.specs.declared.allocator.Group.{Group};
+ghost use Rattle.o2_model.specs.declared.system_file.SystemFile.{SystemFile};
 ghost use Rattle.o2_model.specs.declared.claim.Claim.{Claim};
 ghost use Rattle.o2_model.specs.Volume.{Volume, over};
 ghost use Rattle.o2_model.specs.Clusters.{cluster_of};
 ghost use Rattle.o2_model.specs.Groups.{groups, is_of_clusters, is_inode};
 ghost use Rattle.o2_model.specs.Frames.{has_bit, content_blocks};
 ghost use Rattle.o2_model.specs.Journals.{journals};
-ghost use Rattle.o2_model.specs.Inodes.{extents, leaf_records};
+ghost use Rattle.o2_model.specs.Inodes.{extents, is_directory, leaf_records};
 ghost use Rattle.o2_model.specs.LeafRecords.{blocks_under};
 ghost use Rattle.o2_model.specs.Directories.{dir_blocks, directory_entries};
 ghost use Rattle.o2_model.specs.Contents.{content_of};
 ghost use Rattle.o2_model.specs.Files.{file_of};
 ghost use Rattle.o2_model.specs.Failing.{failing};
 ghost use Rattle.o2_model.specs.Agrees.{AgreesOnOwned};
+ghost use Rattle.o2_model.specs.SystemFiles.{system_inode};
 ghost use Rattle.o2_model.specs.Metadata.{metadata_blocks};
 ghost use Rattle.o2_model.specs.Words.{among};
 ghost use Rattle.o2_model.specs.Checks.MetaBlock.{meta_block_faults};
@@ -72,4 +74,13 @@ pub fn owned_blocks_tell_inodes()
         → content_of (over v at) i ≡ content_of v i }
     ensures file { (v : Volume) (at : ℕ → List ℕ) (i : ℕ) → failing v ≡ [] → AgreesOnOwned v at → is_inode v i ≡ true → among (journals v) i ≡ false
         → file_of (over v at) i ≡ file_of v i }
+{}
+
+/// A law: where nothing fails, the root, the system directory and the volume's own files are inodes, and no directory is a
+/// journal.
+pub fn own_files_are_inodes()
+    ensures root { (v : Volume) → failing v ≡ [] → is_inode v v.geo.root ≡ true }
+    ensures sysdir { (v : Volume) → failing v ≡ [] → is_inode v v.geo.sysdir ≡ true }
+    ensures files { (v : Volume) (file : SystemFile) (b : ℕ) → failing v ≡ [] → system_inode v file ≡ Some b → is_inode v b ≡ true }
+    ensures journals { (v : Volume) (d : ℕ) → failing v ≡ [] → is_directory v d ≡ true → among (journals v) d ≡ false }
 {}
