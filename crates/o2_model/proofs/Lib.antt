@@ -27,3 +27,4 @@ pub mod WellRead
 pub mod DataOwned
 pub mod OwnedTells
 pub mod SystemOwned
+pub mod OwnedTables

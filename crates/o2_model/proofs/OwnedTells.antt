@@ -70,7 +70,7 @@ looked_at_owned v i b none is h =
     let blocks : among (extents v i).blocks b ≡ true = ap (λ bs. among bs b) (sym ((extents_well v i).seen (no_extent_fault v i none is))) ∙ h in
     metadata_owned v b (metadata_holds v none) (extent_block_listed v i b is blocks)
 
-dinode_same : (v : Volume) (at : ℕ → List ℕ) (i : ℕ) → AgreesOnOwned v at → is_inode v i ≡ true → at i ≡ v.at i
+pub dinode_same : (v : Volume) (at : ℕ → List ℕ) (i : ℕ) → AgreesOnOwned v at → is_inode v i ≡ true → at i ≡ v.at i
 dinode_same v at i agrees is = agrees.same i (dinode_owned v i is)
 
 pub owned_tell_extents : (v : Volume) (at : ℕ → List ℕ) (i : ℕ) → failing v ≡ [] → AgreesOnOwned v at → is_inode v i ≡ true → extents (over v at) i ≡ extents v i

@@ -6,8 +6,8 @@ ghost use Rattle.o2_model.specs.declared.system_file.SystemFile.{SystemFile};
 ghost use Rattle.o2_model.specs.declared.claim.Claim.{Claim};
 ghost use Rattle.o2_model.specs.Volume.{Volume, over};
 ghost use Rattle.o2_model.specs.Clusters.{cluster_of};
-ghost use Rattle.o2_model.specs.Groups.{groups, is_of_clusters, is_inode};
-ghost use Rattle.o2_model.specs.Frames.{has_bit, content_blocks};
+ghost use Rattle.o2_model.specs.Groups.{group_walk, groups, is_of_clusters, is_inode, inodes_of};
+ghost use Rattle.o2_model.specs.Frames.{SameSystemFiles, has_bit, content_blocks};
 ghost use Rattle.o2_model.specs.Journals.{journals};
 ghost use Rattle.o2_model.specs.Inodes.{extents, is_directory, leaf_records};
 ghost use Rattle.o2_model.specs.LeafRecords.{blocks_under};
@@ -83,4 +83,12 @@ pub fn own_files_are_inodes()
     ensures sysdir { (v : Volume) → failing v ≡ [] → is_inode v v.geo.sysdir ≡ true }
     ensures files { (v : Volume) (file : SystemFile) (b : ℕ) → failing v ≡ [] → system_inode v file ≡ Some b → is_inode v b ≡ true }
     ensures journals { (v : Volume) (d : ℕ) → failing v ≡ [] → is_directory v d ≡ true → among (journals v) d ≡ false }
+{}
+
+/// A law: where nothing fails, blocks that agree on the owned ones have the same entries and dinodes of the volume's own
+/// files, the same groups, and the same inodes.
+pub fn owned_blocks_tell_tables()
+    ensures files { (v : Volume) (at : ℕ → List ℕ) → failing v ≡ [] → AgreesOnOwned v at → SameSystemFiles v at }
+    ensures groups { (v : Volume) (at : ℕ → List ℕ) → failing v ≡ [] → AgreesOnOwned v at → group_walk (over v at) ≡ group_walk v }
+    ensures inodes { (v : Volume) (at : ℕ → List ℕ) → failing v ≡ [] → AgreesOnOwned v at → inodes_of (over v at) ≡ inodes_of v }
 {}
