@@ -28,3 +28,4 @@ pub mod DataOwned
 pub mod OwnedTells
 pub mod SystemOwned
 pub mod OwnedTables
+pub mod OwnedTree

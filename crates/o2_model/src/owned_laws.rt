@@ -17,6 +17,7 @@ ghost use Rattle.o2_model.specs.Files.{file_of};
 ghost use Rattle.o2_model.specs.Failing.{failing};
 ghost use Rattle.o2_model.specs.Agrees.{AgreesOnOwned};
 ghost use Rattle.o2_model.specs.SystemFiles.{system_inode};
+ghost use Rattle.o2_model.specs.Tree.{tree_walk};
 ghost use Rattle.o2_model.specs.Metadata.{metadata_blocks};
 ghost use Rattle.o2_model.specs.Words.{among};
 ghost use Rattle.o2_model.specs.Checks.MetaBlock.{meta_block_faults};
@@ -91,4 +92,9 @@ pub fn owned_blocks_tell_tables()
     ensures files { (v : Volume) (at : ℕ → List ℕ) → failing v ≡ [] → AgreesOnOwned v at → SameSystemFiles v at }
     ensures groups { (v : Volume) (at : ℕ → List ℕ) → failing v ≡ [] → AgreesOnOwned v at → group_walk (over v at) ≡ group_walk v }
     ensures inodes { (v : Volume) (at : ℕ → List ℕ) → failing v ≡ [] → AgreesOnOwned v at → inodes_of (over v at) ≡ inodes_of v }
+{}
+
+/// A law: where nothing fails, blocks that agree on the owned ones have the same tree.
+pub fn owned_blocks_tell_tree()
+    ensures { (v : Volume) (at : ℕ → List ℕ) → failing v ≡ [] → AgreesOnOwned v at → tree_walk (over v at) ≡ tree_walk v }
 {}
