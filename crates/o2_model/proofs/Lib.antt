@@ -29,3 +29,4 @@ pub mod OwnedTells
 pub mod SystemOwned
 pub mod OwnedTables
 pub mod OwnedTree
+pub mod OwnedFiles

@@ -1,9 +1,9 @@
 -- Where nothing fails, the volume's own files are inodes, and no directory is a journal.
 use Rattle.std.proofs.Common.{◌≡◌, inl, inr, ℕ, Bool, true, false, ◌&&◌, ◌||◌, not, ◌==◌, List, [], ◌∷◌, ◌++◌, refl, sym, ◌∙◌, ap, subst, arith, Option, Some, None}
 use Rattle.std.specs.Prelude.{filter, codes, bytes_eq, option_map}
-use Rattle.std.specs.List.{AllByRecursion}
+use Rattle.std.specs.List.{AllByRecursion, Contains}
 use Rattle.std.specs.Option.{option_map_or}
-use Rattle.std.proofs.lemmas.Bool.{cases_Bool, and_parts, eqb-true, false≢true, cond-false, not_from_false}
+use Rattle.std.proofs.lemmas.Bool.{cases_Bool, and_from, and_parts, or_right, eq-eqb, eqb-true, false≢true, cond-false, not_from_false}
 use Rattle.std.proofs.lemmas.Slice.Eq.{bytes_eq-Decides}
 use Rattle.o2_ondisk.specs.declared.kind.Kind.{Kind}
 use Rattle.o2_ondisk.specs.declared.kind.Kind.TheVariants.{File, Directory, Character, Block, Fifo, Socket, Link}
@@ -14,7 +14,7 @@ use Rattle.o2_model.specs.declared.system_file.SystemFile.TheVariants.{BadBlocks
 use Rattle.o2_model.specs.Words.{among, fails_unless, fails_at}
 use Rattle.o2_model.specs.Volume.{Volume, is_valid}
 use Rattle.o2_model.specs.Inodes.{kind, is_directory, is_directory_kind, is_file, is_file_kind}
-use Rattle.o2_model.specs.Directories.{Entry, directory_entries, is_dot, is_named, first_named}
+use Rattle.o2_model.specs.Directories.{Entry, directory_entries, is_dot, is_named, first_named, own_inodes}
 use Rattle.o2_model.specs.SystemFiles.{system_name, system_inode, slots}
 use Rattle.o2_model.specs.Journals.{named_journal, journals}
 use Rattle.o2_model.specs.Groups.{is_inode}
@@ -24,7 +24,7 @@ use Rattle.o2_model.specs.Checks.Sysfile.{has_system_files, is_name_of_slots, al
 use Rattle.o2_model.specs.Failing.{faults, failing}
 use Rattle.o2_model.proofs.NothingFails.{no_check_fails}
 use Rattle.o2_model.proofs.Failing.{none_fails}
-use Rattle.o2_model.proofs.Found.{passing, any_flat, find_passing, each_of}
+use Rattle.o2_model.proofs.Found.{found, any_map, any_filter, passing, any_flat, find_passing, each_of}
 
 -- ---- checks
 append_nothing : {A : Type 0} (xs ys : List A) → xs ++ ys ≡ [] → (xs ≡ []) × (ys ≡ [])
@@ -110,6 +110,15 @@ record NamedFile (v : Volume) (file : SystemFile) (b : ℕ) : Type 0 where
   name : is_named (system_name file) entry ≡ true
   inode : entry.inode ≡ b
   sound : is_sound_system_entry v entry ≡ true
+  own : among (own_inodes v) b ≡ true
+
+-- what an entry but the dots names is the volume's own
+entry_own : (v : Volume) (e : Entry) → Contains (directory_entries v v.geo.sysdir) e → not (is_dot e) ≡ true → among (own_inodes v) e.inode ≡ true
+unfolding own_inodes
+entry_own v e is h =
+    or_right (e.inode == v.geo.sysdir) _ (any_map (λ m. e.inode == m) (λ (x : Entry). x.inode) (filter (λ x. not (is_dot x)) (directory_entries v v.geo.sysdir))
+    ∙ (any_filter (λ x. e.inode == x.inode) (λ x. not (is_dot x)) (directory_entries v v.geo.sysdir)
+    ∙ found (λ x. not (is_dot x) && e.inode == x.inode) (directory_entries v v.geo.sysdir) e is (and_from _ _ h (eq-eqb e.inode e.inode refl))))
 
 option_inode : (o : Option Entry) (b : ℕ) → option_map (λ (e : Entry). e.inode) o ≡ Some b → (e : Entry) × (o ≡ Some e) × (e.inode ≡ b)
 option_inode None b h = cc
@@ -118,14 +127,16 @@ option_inode (Some e) b h = (e, refl, cc)
 named_file : (v : Volume) (file : SystemFile) (b : ℕ) → failing v ≡ [] → system_inode v file ≡ Some b → NamedFile v file b
 unfolding system_inode
 named_file v file b none h =
-    let found = option_inode (first_named v v.geo.sysdir (system_name file)) b h in
-    let at = find_passing (is_named (system_name file)) (directory_entries v v.geo.sysdir) found.0 found.1 in
+    let entry = option_inode (first_named v v.geo.sysdir (system_name file)) b h in
+    let at = find_passing (is_named (system_name file)) (directory_entries v v.geo.sysdir) entry.0 entry.1 in
+    let no_dots : not (is_dot entry.0) ≡ true = not_from_false _ (no_dot file entry.0 at.1) in
     let all = filtered (λ e. is_sound_system_entry v e ≡ true) (λ e. not (is_dot e)) (directory_entries v v.geo.sysdir) (file_parts v (files_hold v none)).1 in
     record {
-      entry = found.0;
+      entry = entry.0;
       name = at.1;
-      inode = found.2;
-      sound = each_of (λ e. not (is_dot e) ≡ true → is_sound_system_entry v e ≡ true) (directory_entries v v.geo.sysdir) found.0 all at.0 (not_from_false _ (no_dot file found.0 at.1));
+      inode = entry.2;
+      sound = each_of (λ e. not (is_dot e) ≡ true → is_sound_system_entry v e ≡ true) (directory_entries v v.geo.sysdir) entry.0 all at.0 no_dots;
+      own = subst (λ x. among (own_inodes v) x ≡ true) entry.2 (entry_own v entry.0 at.0 no_dots);
     }
 
 first_two : (a b c d e f g : Bool) → (a && b && c && d && e && f && g) ≡ true → (a ≡ true) × (b ≡ true)
@@ -190,12 +201,32 @@ of_option : (b : ℕ) (o : Option ℕ) → among (option_map_or (λ c. c ∷ [])
 of_option b None h = absurd (false≢true h)
 of_option b (Some c) h = let same : b ≡ c = eqb-true b c (one b c h) in rw same refl
 
-journal_listed : (v : Volume) (b : ℕ) → failing v ≡ [] → among (journals v) b ≡ true → is_file v b ≡ true
+-- the slot whose journal it is
+record IsJournal (v : Volume) (b : ℕ) : Type 0 where
+  slot : ℕ
+  named : named_journal v slot ≡ Some b
+
+journal_of_slot : (v : Volume) (b : ℕ) → among (journals v) b ≡ true → IsJournal v b
 unfolding journals
-journal_listed v b none h =
+journal_of_slot v b h =
     let s = passing (λ slot. among (option_map_or (λ c. c ∷ []) (named_journal v slot) []) b) (slots v)
     (sym (any_flat (λ m. b == m) (λ slot. option_map_or (λ c. c ∷ []) (named_journal v slot) []) (slots v)) ∙ h) in
-    journal_is_file v s.item b none (of_option b (named_journal v s.item) s.passes)
+    record { slot = s.item; named = of_option b (named_journal v s.item) s.passes }
+
+journal_listed : (v : Volume) (b : ℕ) → failing v ≡ [] → among (journals v) b ≡ true → is_file v b ≡ true
+journal_listed v b none h =
+    let journal = journal_of_slot v b h in
+    journal_is_file v journal.slot b none journal.named
+
+-- what is not the volume's own is no journal
+pub users_apart : (v : Volume) (b : ℕ) → failing v ≡ [] → among (own_inodes v) b ≡ false → among (journals v) b ≡ false
+users_apart v b none other = elim (cases_Bool (among (journals v) b)) [
+  | inr apart ↦ apart
+  | inl is ↦
+      let journal = journal_of_slot v b is in
+      let named = named_file v (OfSlot Journal journal.slot) b none journal.named in
+      absurd (false≢true (sym other ∙ named.own))
+]
 
 -- a directory is no journal
 pub directory_apart : (v : Volume) (d : ℕ) → failing v ≡ [] → is_directory v d ≡ true → among (journals v) d ≡ false

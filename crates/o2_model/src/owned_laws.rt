@@ -13,7 +13,7 @@ ghost use Rattle.o2_model.specs.Inodes.{extents, is_directory, leaf_records};
 ghost use Rattle.o2_model.specs.LeafRecords.{blocks_under};
 ghost use Rattle.o2_model.specs.Directories.{dir_blocks, directory_entries};
 ghost use Rattle.o2_model.specs.Contents.{content_of};
-ghost use Rattle.o2_model.specs.Files.{file_of};
+ghost use Rattle.o2_model.specs.Files.{file_of, files_of};
 ghost use Rattle.o2_model.specs.Failing.{failing};
 ghost use Rattle.o2_model.specs.Agrees.{AgreesOnOwned};
 ghost use Rattle.o2_model.specs.SystemFiles.{system_inode};
@@ -94,7 +94,8 @@ pub fn owned_blocks_tell_tables()
     ensures inodes { (v : Volume) (at : ℕ → List ℕ) → failing v ≡ [] → AgreesOnOwned v at → inodes_of (over v at) ≡ inodes_of v }
 {}
 
-/// A law: where nothing fails, blocks that agree on the owned ones have the same tree.
+/// A law: where nothing fails, blocks that agree on the owned ones have the same tree, and the same files in it.
 pub fn owned_blocks_tell_tree()
-    ensures { (v : Volume) (at : ℕ → List ℕ) → failing v ≡ [] → AgreesOnOwned v at → tree_walk (over v at) ≡ tree_walk v }
+    ensures files { (v : Volume) (at : ℕ → List ℕ) → failing v ≡ [] → AgreesOnOwned v at → files_of (over v at) ≡ files_of v }
+    ensures tree { (v : Volume) (at : ℕ → List ℕ) → failing v ≡ [] → AgreesOnOwned v at → tree_walk (over v at) ≡ tree_walk v }
 {}
