@@ -30,3 +30,4 @@ pub mod SystemOwned
 pub mod OwnedTables
 pub mod OwnedTree
 pub mod OwnedFiles
+pub mod OwnedImages

@@ -31,7 +31,7 @@ append_nothing : {A : Type 0} (xs ys : List A) → xs ++ ys ≡ [] → (xs ≡ [
 append_nothing [] ys h = (refl, h)
 append_nothing (x ∷ xs) ys h = cc
 
-holds_unless : (b : ℕ) (holds : Bool) → fails_unless b holds ≡ [] → holds ≡ true
+pub holds_unless : (b : ℕ) (holds : Bool) → fails_unless b holds ≡ [] → holds ≡ true
 holds_unless b true h = refl
 holds_unless b false h = cc
 

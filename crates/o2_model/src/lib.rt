@@ -43,7 +43,8 @@ pub use order_laws::{bits_and_blocks_agree, rising_numbers_are_the_list_in_order
 pub use owned_laws::{
     blocks_of_groups_are_owned, claimed_blocks_are_owned, data_blocks_are_owned,
     dinodes_and_extent_blocks_are_owned, first_blocks_are_owned, own_files_are_inodes,
-    owned_blocks_tell_inodes, owned_blocks_tell_tables, owned_blocks_tell_tree,
+    owned_blocks_tell_images, owned_blocks_tell_inodes, owned_blocks_tell_tables,
+    owned_blocks_tell_tree,
 };
 pub use replay_laws::{
     clean_image_has_no_variant, consistent_image_stays, each_check_holds, replay_keeps_length,

@@ -1,10 +1,11 @@
 // Laws of the blocks that carry meaning, each the contract of a function that does nothing.
-ghost use Rattle.std.specs.Prelude.{◌≡◌, ◌<◌, ◌≤◌, ◌+◌, ℕ, List, [], map, flat_map, Some, true, false};
+ghost use Rattle.std.specs.Prelude.{◌≡◌, ◌^◌, length, ◌<◌, ◌≤◌, ◌+◌, ℕ, List, [], map, flat_map, Some, true, false};
 ghost use Rattle.std.specs.List.{Contains};
+ghost use Rattle.o2_disk.specs.Image.{Image, block_at};
 ghost use Rattle.o2_model.specs.declared.allocator.Group.{Group};
 ghost use Rattle.o2_model.specs.declared.system_file.SystemFile.{SystemFile};
 ghost use Rattle.o2_model.specs.declared.claim.Claim.{Claim};
-ghost use Rattle.o2_model.specs.Volume.{Volume, over};
+ghost use Rattle.o2_model.specs.Volume.{Volume, over, volume_of};
 ghost use Rattle.o2_model.specs.Clusters.{cluster_of};
 ghost use Rattle.o2_model.specs.Groups.{group_walk, groups, is_of_clusters, is_inode, inodes_of};
 ghost use Rattle.o2_model.specs.Frames.{SameSystemFiles, has_bit, content_blocks};
@@ -98,4 +99,16 @@ pub fn owned_blocks_tell_tables()
 pub fn owned_blocks_tell_tree()
     ensures files { (v : Volume) (at : ℕ → List ℕ) → failing v ≡ [] → AgreesOnOwned v at → files_of (over v at) ≡ files_of v }
     ensures tree { (v : Volume) (at : ℕ → List ℕ) → failing v ≡ [] → AgreesOnOwned v at → tree_walk (over v at) ≡ tree_walk v }
+{}
+
+/// A law: where nothing fails, blocks 0 to 2 are owned. So an image of the same length that agrees on the owned blocks has
+/// the same volume over its own blocks, the same tree and the same files.
+pub fn owned_blocks_tell_images()
+    ensures first { (v : Volume) (b : ℕ) → failing v ≡ [] → b ≤ 2 → is_owned v b ≡ true }
+    ensures volume { (I X : Image) (bits : ℕ) → failing (volume_of I bits) ≡ [] → length X ≡ length I → AgreesOnOwned (volume_of I bits) (block_at (2 ^ bits) X)
+        → volume_of X bits ≡ over (volume_of I bits) (block_at (2 ^ bits) X) }
+    ensures tree { (I X : Image) (bits : ℕ) → failing (volume_of I bits) ≡ [] → length X ≡ length I → AgreesOnOwned (volume_of I bits) (block_at (2 ^ bits) X)
+        → tree_walk (volume_of X bits) ≡ tree_walk (volume_of I bits) }
+    ensures files { (I X : Image) (bits : ℕ) → failing (volume_of I bits) ≡ [] → length X ≡ length I → AgreesOnOwned (volume_of I bits) (block_at (2 ^ bits) X)
+        → files_of (volume_of X bits) ≡ files_of (volume_of I bits) }
 {}
