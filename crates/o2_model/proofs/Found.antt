@@ -1,5 +1,5 @@
 -- Where a list is mapped, joined or filtered, a test finds what it found before.
-use Rattle.std.proofs.Common.{◌≡◌, inl, inr, ℕ, zero, suc, ◌+◌, ◌-◌, ◌<◌, ◌≤◌, Bool, true, ◌&&◌, ◌||◌, List, [], ◌∷◌, map, refl, ◌∙◌, ap, arith, Some}
+use Rattle.std.proofs.Common.{◌≡◌, inl, inr, ℕ, zero, suc, ◌+◌, ◌-◌, ◌<◌, ◌≤◌, Bool, true, ◌&&◌, ◌||◌, List, [], ◌∷◌, ◌++◌, map, refl, ◌∙◌, ap, arith, Some}
 use Rattle.std.specs.Prelude.{flat_map, filter, find}
 use Rattle.std.specs.List.{list_any, AllByRecursion, Contains, range_with_len}
 use Rattle.std.proofs.lemmas.Bool.{cases_Bool, false≢true}
@@ -76,3 +76,8 @@ pub each_of : {A : Type 0} (P : A → Type 0) (xs : List A) (x : A) → AllByRec
 each_of P [] x all is = absurd (omega (arith, is.1))
 each_of P (y ∷ ys) x all (zero, within, is) = rw (← is) all.0
 each_of P (y ∷ ys) x all (suc k, within, is) = each_of P ys x all.1 (k, omega (arith, within), is)
+
+-- a list joined of two that is empty
+pub append_nothing : {A : Type 0} (xs ys : List A) → xs ++ ys ≡ [] → (xs ≡ []) × (ys ≡ [])
+append_nothing [] ys h = (refl, h)
+append_nothing (x ∷ xs) ys h = cc

@@ -1,5 +1,5 @@
 -- Where nothing fails, blocks that agree on the owned ones have the same extents, entries and contents of inodes.
-use Rattle.std.proofs.Common.{◌≡◌, ⊎_elim, ℕ, true, false, ◌==◌, List, [], ◌∷◌, ◌++◌, refl, sym, ◌∙◌, ap, subst}
+use Rattle.std.proofs.Common.{◌≡◌, ⊎_elim, ℕ, true, false, ◌==◌, List, [], ◌∷◌, refl, sym, ◌∙◌, ap, subst}
 use Rattle.std.specs.Prelude.{flat_map}
 use Rattle.std.specs.List.{AllByRecursion, Contains}
 use Rattle.std.proofs.lemmas.Bool.{or_left, or_cases, eq-eqb, eqb-true}
@@ -23,16 +23,12 @@ use Rattle.o2_model.proofs.NothingFails.{no_check_fails}
 use Rattle.o2_model.proofs.Readings.{extents_same, faults_of_own_list}
 use Rattle.o2_model.proofs.SameEntries.{entries_same}
 use Rattle.o2_model.proofs.SameContents.{content_same, file_same}
-use Rattle.o2_model.proofs.Found.{any_flat, passing, each_of}
+use Rattle.o2_model.proofs.Found.{append_nothing, any_flat, passing, each_of}
 use Rattle.o2_model.proofs.WellRead.{extents_well, extent_blocks_are}
 use Rattle.o2_model.proofs.BitsOwned.{dinode_owned, metadata_owned}
 use Rattle.o2_model.proofs.DataOwned.{among_inodes, content_owned, directory_owned}
 
 -- ---- checks
-append_nothing : {A : Type 0} (xs ys : List A) → xs ++ ys ≡ [] → (xs ≡ []) × (ys ≡ [])
-append_nothing [] ys h = (refl, h)
-append_nothing (x ∷ xs) ys h = cc
-
 each_nothing : {A B : Type 0} (f : A → List B) (xs : List A) → flat_map f xs ≡ [] → AllByRecursion (λ x. f x ≡ []) xs
 each_nothing f [] h = tt
 each_nothing f (x ∷ xs) h =

@@ -24,13 +24,9 @@ use Rattle.o2_model.specs.Checks.Sysfile.{has_system_files, is_name_of_slots, al
 use Rattle.o2_model.specs.Failing.{faults, failing}
 use Rattle.o2_model.proofs.NothingFails.{no_check_fails}
 use Rattle.o2_model.proofs.Failing.{none_fails}
-use Rattle.o2_model.proofs.Found.{found, any_map, any_filter, passing, any_flat, find_passing, each_of}
+use Rattle.o2_model.proofs.Found.{append_nothing, found, any_map, any_filter, passing, any_flat, find_passing, each_of}
 
 -- ---- checks
-append_nothing : {A : Type 0} (xs ys : List A) → xs ++ ys ≡ [] → (xs ≡ []) × (ys ≡ [])
-append_nothing [] ys h = (refl, h)
-append_nothing (x ∷ xs) ys h = cc
-
 pub holds_unless : (b : ℕ) (holds : Bool) → fails_unless b holds ≡ [] → holds ≡ true
 holds_unless b true h = refl
 holds_unless b false h = cc
