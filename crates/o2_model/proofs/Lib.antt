@@ -18,3 +18,16 @@ pub mod LogReadings
 pub mod SameContents
 pub mod SameAllocators
 pub mod BitPlaces
+pub mod Found
+pub mod OwnedBlocks
+pub mod GoodGroups
+pub mod GroupsOwned
+pub mod BitsOwned
+pub mod WellRead
+pub mod DataOwned
+pub mod OwnedTells
+pub mod SystemOwned
+pub mod OwnedTables
+pub mod OwnedTree
+pub mod OwnedFiles
+pub mod OwnedImages

@@ -39,3 +39,5 @@ pub mod AfterReplay
 pub mod Owned
 pub mod Frames
 pub mod Intact
+pub mod Walked
+pub mod Agrees

@@ -14,6 +14,7 @@ mod laws;
 mod log_laws;
 mod oddity;
 mod order_laws;
+mod owned_laws;
 mod replay_laws;
 mod system_file;
 mod walk_laws;
@@ -39,6 +40,12 @@ pub use laws::{geometry_tells_block_bits, label_alone_changes};
 pub use log_laws::log_is_what_its_blocks_spell;
 pub use oddity::Oddity;
 pub use order_laws::{bits_and_blocks_agree, rising_numbers_are_the_list_in_order};
+pub use owned_laws::{
+    blocks_of_groups_are_owned, claimed_blocks_are_owned, data_blocks_are_owned,
+    dinodes_and_extent_blocks_are_owned, first_blocks_are_owned, own_files_are_inodes,
+    owned_blocks_tell_images, owned_blocks_tell_inodes, owned_blocks_tell_tables,
+    owned_blocks_tell_tree,
+};
 pub use replay_laws::{
     clean_image_has_no_variant, consistent_image_stays, each_check_holds, replay_keeps_length,
     stable_image_can_be_replayed,

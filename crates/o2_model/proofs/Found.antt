@@ -1,0 +1,83 @@
+-- Where a list is mapped, joined or filtered, a test finds what it found before.
+use Rattle.std.proofs.Common.{◌≡◌, inl, inr, ℕ, zero, suc, ◌+◌, ◌-◌, ◌<◌, ◌≤◌, Bool, true, ◌&&◌, ◌||◌, List, [], ◌∷◌, ◌++◌, map, refl, ◌∙◌, ap, arith, Some}
+use Rattle.std.specs.Prelude.{flat_map, filter, find}
+use Rattle.std.specs.List.{list_any, AllByRecursion, Contains, range_with_len}
+use Rattle.std.proofs.lemmas.Bool.{cases_Bool, false≢true}
+use Rattle.std.proofs.lemmas.List.Folds.{list_any-append, list_any_at}
+use Rattle.std.proofs.lemmas.List.FromFn.{length-range_with_len, get_or-range_with_len}
+
+pub found : {A : Type 0} (p : A → Bool) (xs : List A) (x : A) → Contains xs x → p x ≡ true → list_any p xs ≡ true
+found p xs x is h = list_any_at p xs is.0 x is.1 (ap p is.2 ∙ h)
+
+pub any_map : {A B : Type 0} (p : B → Bool) (f : A → B) (xs : List A) → list_any p (map f xs) ≡ list_any (λ x. p (f x)) xs
+any_map p f [] = refl
+any_map p f (x ∷ xs) = ap (λ b. p (f x) || b) (any_map p f xs)
+
+pub any_flat : {A B : Type 0} (p : B → Bool) (f : A → List B) (xs : List A) → list_any p (flat_map f xs) ≡ list_any (λ x. list_any p (f x)) xs
+any_flat p f [] = refl
+any_flat p f (x ∷ xs) = list_any-append p (f x) (flat_map f xs) ∙ ap (λ b. list_any p (f x) || b) (any_flat p f xs)
+
+pub any_filter : {A : Type 0} (p q : A → Bool) (xs : List A) → list_any p (filter q xs) ≡ list_any (λ x. q x && p x) xs
+any_filter p q [] = refl
+any_filter p q (x ∷ xs) = elim (cases_Bool (q x)) [
+  | inl good ↦ rw good (ap (λ b. p x || b) (any_filter p q xs))
+  | inr bad ↦ rw bad (any_filter p q xs)
+]
+
+-- a number of a range that passes
+pub any_range : (p : ℕ → Bool) (a n b : ℕ) → a ≤ b → b < a + n → p b ≡ true → list_any p (range_with_len a n) ≡ true
+any_range p a n b low high h =
+    list_any_at p (range_with_len a n) (b - a) 0 (omega (arith, low, high, length-range_with_len a n))
+    (ap p (omega (arith, low, high, get_or-range_with_len a n (b - a) 0 (omega (arith, low, high)))) ∙ h)
+
+-- the test finds an element
+pub record Passing {A : Type 0} (p : A → Bool) (xs : List A) : Type 0 where
+  pub item : A
+  pub inside : Contains xs item
+  pub passes : p item ≡ true
+
+pub contains_first : {A : Type 0} (x : A) (xs : List A) → Contains (x ∷ xs) x
+contains_first x xs = (0, omega arith, refl)
+
+pub contains_later : {A : Type 0} (y x : A) (xs : List A) → Contains xs x → Contains (y ∷ xs) x
+contains_later y x xs is = (suc is.0, omega (arith, is.1), is.2)
+
+pub passing : {A : Type 0} (p : A → Bool) (xs : List A) → list_any p xs ≡ true → Passing p xs
+passing p [] h = absurd (false≢true h)
+passing p (x ∷ xs) h = elim (cases_Bool (p x)) [
+  | inl good ↦ record { item = x; inside = contains_first x xs; passes = good }
+  | inr bad ↦
+      let later = passing p xs (rw bad at h) in
+      record { item = later.item; inside = contains_later x later.item xs later.inside; passes = later.passes }
+]
+
+-- what `find` finds
+pub find_passing : {A : Type 0} (p : A → Bool) (xs : List A) (x : A) → find p xs ≡ Some x → Contains xs x × (p x ≡ true)
+find_passing p [] x h = cc
+find_passing p (y ∷ ys) x h = elim (cases_Bool (p y)) [
+  | inl good ↦
+      let same : y ≡ x = let e : Some y ≡ Some x = rw good at h in cc in
+      rw (← same) (contains_first y ys, good)
+  | inr bad ↦
+      let later = find_passing p ys x (rw bad at h) in
+      (contains_later y x ys later.0, later.1)
+]
+
+-- of a range: the number is in it
+pub range_bounds : (a n b : ℕ) → Contains (range_with_len a n) b → (a ≤ b) × (b < a + n)
+range_bounds a n b is =
+    let k = is.0 in
+    let inside : k < n = omega (arith, is.1, length-range_with_len a n) in
+    let at = get_or-range_with_len a n k b inside in
+    (omega (arith, is.2, at, inside), omega (arith, is.2, at, inside))
+
+-- each element has what all have
+pub each_of : {A : Type 0} (P : A → Type 0) (xs : List A) (x : A) → AllByRecursion P xs → Contains xs x → P x
+each_of P [] x all is = absurd (omega (arith, is.1))
+each_of P (y ∷ ys) x all (zero, within, is) = rw (← is) all.0
+each_of P (y ∷ ys) x all (suc k, within, is) = each_of P ys x all.1 (k, omega (arith, within), is)
+
+-- a list joined of two that is empty
+pub append_nothing : {A : Type 0} (xs ys : List A) → xs ++ ys ≡ [] → (xs ≡ []) × (ys ≡ [])
+append_nothing [] ys h = (refl, h)
+append_nothing (x ∷ xs) ys h = cc

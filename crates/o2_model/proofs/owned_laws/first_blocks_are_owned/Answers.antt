@@ -1,0 +1,5 @@
+use Rattle.o2_model.proofs.GroupsOwned.{first_owned}
+use Rattle.o2_model.proofs.owned_laws.first_blocks_are_owned.Goals as goal
+
+pub returns : goal.returns
+returns c = first_owned
