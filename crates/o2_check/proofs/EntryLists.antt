@@ -81,9 +81,9 @@ pub one_met : (met more : List ℕ → Bool) (e : Live) (es : List Live) → is_
     → (differ (e ∷ es) && are_fresh met (e ∷ es)) ≡ (differ es && are_fresh more es)
 one_met met more e es other fresh is =
     rw (other, fresh)
-      (ap (λ (b : Bool). b && is_none_of (filter (λ f. met f.name) (named es))) (none_of_two (filter (are_namesakes e) (named es)) (later_like are_namesakes (named es)))
-      ∙ (regroup (is_none_of (filter (are_namesakes e) (named es))) (differ es) (is_none_of (filter (λ f. met f.name) (named es)))
-      ∙ ap (λ (b : Bool). differ es && b) (sym (fresh_of_more met more e is (named es)))))
+    (ap (λ (b : Bool). b && is_none_of (filter (λ f. met f.name) (named es))) (none_of_two (filter (are_namesakes e) (named es)) (later_like are_namesakes (named es)))
+    ∙ (regroup (is_none_of (filter (are_namesakes e) (named es))) (differ es) (is_none_of (filter (λ f. met f.name) (named es)))
+    ∙ ap (λ (b : Bool). differ es && b) (sym (fresh_of_more met more e is (named es)))))
 
 -- what `not` says of the other
 pub was_new : (a b : Bool) → a ≡ not b → a ≡ true → b ≡ false

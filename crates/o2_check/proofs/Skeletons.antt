@@ -47,6 +47,8 @@ all_hold v super sysdir root = record {
 pub root_fails : (v : Volume) (c : Check) (b : ℕ) → check.Root ≡ c → v.geo.root ≡ b → is_sound_super v ≡ true → is_sound_directory v v.geo.sysdir ≡ true
     → (is_valid v v.geo.root && is_directory v v.geo.root) ≡ false → FailsFirst v c b
 root_fails v c b c_is b_is super sysdir root =
-    subst (λ (k : Check). FailsFirst v k b) c_is
-      (holds 2 (is_sound_super v) super, holds v.geo.sysdir (is_sound_directory v v.geo.sysdir) sysdir,
-      subst (λ (n : ℕ). IsLeast n (root_faults v)) b_is (fails v.geo.root (is_sound_root v) (root_is v ∙ root)))
+    subst (λ (k : Check). FailsFirst v k b) c_is (
+      holds 2 (is_sound_super v) super,
+      holds v.geo.sysdir (is_sound_directory v v.geo.sysdir) sysdir,
+      subst (λ (n : ℕ). IsLeast n (root_faults v)) b_is (fails v.geo.root (is_sound_root v) (root_is v ∙ root)),
+    )
