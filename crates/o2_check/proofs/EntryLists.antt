@@ -8,6 +8,7 @@ use Rattle.o2_model.specs.Checks.DirentName.{is_sound_name}
 use Rattle.o2_model.specs.Checks.DirentDup.{are_namesakes}
 use Rattle.o2_dir.specs.Told.{told}
 use Rattle.o2_dir.specs.declared.entry.Entry.{Entry}
+use Rattle.o2_check.proofs.Tests.{and_true, and_false, none_of_two}
 
 -- ---- sound names
 abbrev pub all_sound : List Live → Bool
@@ -32,18 +33,6 @@ differ es = is_none_of (later_like are_namesakes (named es))
 -- none of the entries but the dots has a name that was met
 abbrev pub are_fresh : (List ℕ → Bool) → List Live → Bool
 are_fresh met es = is_none_of (filter (λ e. met e.name) (named es))
-
-and_true : (a : Bool) → (a && true) ≡ a
-and_true true = refl
-and_true false = refl
-
-and_false : (a : Bool) → (a && false) ≡ false
-and_false true = refl
-and_false false = refl
-
-none_of_two : {A : Type 0} (xs ys : List A) → is_none_of (xs ++ ys) ≡ (is_none_of xs && is_none_of ys)
-none_of_two [] ys = refl
-none_of_two (x ∷ xs) ys = refl
 
 none_met : (met : List ℕ → Bool) → ((n : List ℕ) → met n ≡ false) → (es : List Live) → is_none_of (filter (λ e. met e.name) es) ≡ true
 none_met met none [] = refl

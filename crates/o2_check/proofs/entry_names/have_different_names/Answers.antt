@@ -2,7 +2,7 @@
 use Rattle.std.proofs.Common.{not, map, ap, sym, ◌∙◌, bytes_eq, ◌&&◌, ◌||◌}
 use Rattle.o2_dir.specs.Told.{told}
 use Rattle.o2_check.specs.Names.{has_name}
-use Rattle.o2_check.proofs.EntryLists.{differ, are_fresh, all_fresh, dot_left_out, one_met, met_again, was_new, was_met, before_taken}
+use Rattle.o2_check.proofs.EntryLists.{differ, are_fresh, all_fresh, dot_left_out, one_met, was_new, before_taken}
 use Rattle.o2_check.proofs.MetNames.{has}
 use Rattle.o2_check.proofs.entry_names.have_different_names.Goals as goal
 

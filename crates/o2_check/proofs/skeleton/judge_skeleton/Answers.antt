@@ -1,5 +1,5 @@
 -- The three answers as the three checks.
-use Rattle.std.proofs.Common.{◌≡◌, ℕ, sym, ◌∙◌}
+use Rattle.std.proofs.Common.{◌≡◌, sym, ◌∙◌}
 use Rattle.o2_extent.specs.Seen.{volume_seen}
 use Rattle.o2_model.specs.declared.check.Check.TheVariants as check
 use Rattle.o2_check.proofs.Skeletons.{all_hold, root_fails}
