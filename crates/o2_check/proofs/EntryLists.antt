@@ -8,6 +8,7 @@ use Rattle.o2_model.specs.Checks.DirentName.{is_sound_name}
 use Rattle.o2_model.specs.Checks.DirentDup.{are_namesakes}
 use Rattle.o2_dir.specs.Told.{told}
 use Rattle.o2_dir.specs.declared.entry.Entry.{Entry}
+use Rattle.o2_check.proofs.Tests.{and_true, and_false, none_of_two}
 
 -- ---- sound names
 abbrev pub all_sound : List Live → Bool
@@ -32,18 +33,6 @@ differ es = is_none_of (later_like are_namesakes (named es))
 -- none of the entries but the dots has a name that was met
 abbrev pub are_fresh : (List ℕ → Bool) → List Live → Bool
 are_fresh met es = is_none_of (filter (λ e. met e.name) (named es))
-
-and_true : (a : Bool) → (a && true) ≡ a
-and_true true = refl
-and_true false = refl
-
-and_false : (a : Bool) → (a && false) ≡ false
-and_false true = refl
-and_false false = refl
-
-none_of_two : {A : Type 0} (xs ys : List A) → is_none_of (xs ++ ys) ≡ (is_none_of xs && is_none_of ys)
-none_of_two [] ys = refl
-none_of_two (x ∷ xs) ys = refl
 
 none_met : (met : List ℕ → Bool) → ((n : List ℕ) → met n ≡ false) → (es : List Live) → is_none_of (filter (λ e. met e.name) es) ≡ true
 none_met met none [] = refl
@@ -81,9 +70,9 @@ pub one_met : (met more : List ℕ → Bool) (e : Live) (es : List Live) → is_
     → (differ (e ∷ es) && are_fresh met (e ∷ es)) ≡ (differ es && are_fresh more es)
 one_met met more e es other fresh is =
     rw (other, fresh)
-      (ap (λ (b : Bool). b && is_none_of (filter (λ f. met f.name) (named es))) (none_of_two (filter (are_namesakes e) (named es)) (later_like are_namesakes (named es)))
-      ∙ (regroup (is_none_of (filter (are_namesakes e) (named es))) (differ es) (is_none_of (filter (λ f. met f.name) (named es)))
-      ∙ ap (λ (b : Bool). differ es && b) (sym (fresh_of_more met more e is (named es)))))
+    (ap (λ (b : Bool). b && is_none_of (filter (λ f. met f.name) (named es))) (none_of_two (filter (are_namesakes e) (named es)) (later_like are_namesakes (named es)))
+    ∙ (regroup (is_none_of (filter (are_namesakes e) (named es))) (differ es) (is_none_of (filter (λ f. met f.name) (named es)))
+    ∙ ap (λ (b : Bool). differ es && b) (sym (fresh_of_more met more e is (named es)))))
 
 -- what `not` says of the other
 pub was_new : (a b : Bool) → a ≡ not b → a ≡ true → b ≡ false

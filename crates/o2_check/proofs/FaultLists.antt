@@ -1,9 +1,9 @@
 -- Where the checks of a directory fail, all together.
-use Rattle.std.proofs.Common.{◌≡◌, inl, inr, ℕ, Bool, true, false, ◌&&◌, not, List, [], ◌∷◌, ◌++◌, map, filter, refl, sym, ◌∙◌, ap, rules}
+use Rattle.std.proofs.Common.{◌≡◌, ℕ, Bool, true, false, ◌&&◌, List, [], ◌∷◌, ◌++◌, map, refl, ◌∙◌, ap}
 use Rattle.std.proofs.lemmas.Bool.{and_left, and_right}
 use Rattle.o2_model.specs.declared.check.Check.{Check}
 use Rattle.o2_model.specs.declared.check.Check.TheVariants as check
-use Rattle.o2_model.specs.Words.{IsLeast, fails_unless, those_not, among}
+use Rattle.o2_model.specs.Words.{IsLeast, those_not}
 use Rattle.o2_model.specs.Orders.{later_like, is_none_of}
 use Rattle.o2_model.specs.Volume.{Volume}
 use Rattle.o2_model.specs.Directories.{directory_entries, named_entries}
@@ -14,10 +14,7 @@ use Rattle.o2_model.specs.Checks.DirentName.{is_sound_name, dirent_name_faults}
 use Rattle.o2_model.specs.Checks.DirentDup.{are_namesakes, dirent_dup_faults}
 use Rattle.o2_model.specs.Checks.Sysdir.{directory_faults}
 use Rattle.o2_dir.specs.Fails.{FailsNone, FailsFirst}
-
-none_of_two : {A : Type 0} (xs ys : List A) → is_none_of (xs ++ ys) ≡ (is_none_of xs && is_none_of ys)
-none_of_two [] ys = refl
-none_of_two (x ∷ xs) ys = refl
+use Rattle.o2_check.proofs.Tests.{none_of_two}
 
 none_of_map : {A B : Type 0} (f : A → B) (xs : List A) → is_none_of (map f xs) ≡ is_none_of xs
 none_of_map f [] = refl

@@ -5,3 +5,4 @@ pub mod MetNames
 pub mod Numbers
 pub mod Skeletons
 pub mod Supers
+pub mod Tests

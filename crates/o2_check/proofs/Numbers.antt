@@ -10,6 +10,7 @@ use Rattle.o2_model.specs.Checks.Super.{has_sound_sizes, has_sound_first_group, 
 use Rattle.o2_model.specs.declared.geo.Geo.{Geo}
 use Rattle.o2_extent.specs.Seen.{HasSizes, volume_seen}
 use Rattle.o2_check.specs.Numbers.{is_place, are_sound, AreWithin}
+use Rattle.o2_check.proofs.Tests.{true_and}
 
 -- ---- the first group
 place_is : (v : Volume) (pc size : ℕ) → pc ≡ per_cluster v → size ≡ group_size v → is_place pc size v.geo ≡ is_place (per_cluster v) (group_size v) v.geo
@@ -17,9 +18,6 @@ place_is v pc size pc_is size_is = ap (λ n. is_place pc n v.geo) size_is ∙ ap
 
 pub no_place : (v : Volume) (pc size : ℕ) → pc ≡ per_cluster v → size ≡ group_size v → is_place pc size v.geo ≡ false → has_sound_first_group v ≡ false
 no_place v pc size pc_is size_is none = and_left _ _ (sym (place_is v pc size pc_is size_is) ∙ none)
-
-true_and : (a b : Bool) → a ≡ true → (a && b) ≡ b
-true_and a b is = rw is refl
 
 pub place_decides : (v : Volume) (pc size : ℕ) → pc ≡ per_cluster v → size ≡ group_size v → is_place pc size v.geo ≡ true
     → has_sound_first_group v ≡ not (among (backup_clusters v) (v.geo.first_group / pc))

@@ -1,16 +1,9 @@
 -- SUPER, as its parts decide it.
-use Rattle.std.proofs.Common.{◌≡◌, ℕ, Bool, true, false, ◌&&◌, nat_le, refl, sym, ◌∙◌, ap}
+use Rattle.std.proofs.Common.{◌≡◌, Bool, true, false, ◌&&◌, nat_le, refl, ◌∙◌, ap}
 use Rattle.o2_model.specs.Volume.{Volume, blocks}
 use Rattle.o2_model.specs.Checks.Super.{is_super_dinode, has_sound_sizes, has_sound_first_group, has_sound_directories, is_sound_super}
 use Rattle.o2_check.specs.Numbers.{are_sound}
-
-and_false : (a : Bool) → (a && false) ≡ false
-and_false true = refl
-and_false false = refl
-
-and_true : (a : Bool) → (a && true) ≡ a
-and_true true = refl
-and_true false = refl
+use Rattle.o2_check.proofs.Tests.{and_true, and_false}
 
 regroup : (a b c d e : Bool) → (a && b && c && d && e) ≡ (a && (b && c && d && e))
 regroup true b c d e = refl

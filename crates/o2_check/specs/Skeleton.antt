@@ -1,5 +1,5 @@
 -- The skeleton of a volume, which a tool needs before it follows a path: SUPER, SYSDIR and ROOT hold.
-use Rattle.std.specs.Prelude.{◌≡◌, ℕ, List, []}
+use Rattle.std.specs.Prelude.{◌≡◌, ℕ, []}
 use Rattle.o2_model.specs.Words.{IsLeast}
 use Rattle.o2_model.specs.Volume.{Volume}
 use Rattle.o2_model.specs.Checks.Super.{super_faults}

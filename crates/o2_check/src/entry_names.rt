@@ -50,7 +50,8 @@ fn have_different_names(alloc: Global, entries: Vec<Entry>) -> Result<bool, NoMe
 {
     let mut names = BTreeSet::new(alloc);
     for entry in entries {
-        if !is_dot_entry(&entry) && !add_name(&mut names, entry.name.into_vec())? {
+        let is_dot = is_dot_entry(&entry);
+        if !is_dot && !add_name(&mut names, entry.name.into_vec())? {
             return Ok(false);
         }
     }

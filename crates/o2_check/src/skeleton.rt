@@ -57,3 +57,6 @@ pub fn judge_skeleton<D: Disk, const N: usize>(
     }
     Ok(())
 }
+
+#[cfg(test)]
+mod tests;

@@ -20,11 +20,11 @@ pub returns-clause-told : goal.returns-clause-told
 returns-clause-told c I whole =
     c.has_sound_directories.ensures I
     ∙ sym (directories_decide (volume_seen c.args.geo.now I) c.args.on_device c.volume_blocks.result
-      (sym (c.has_sound_sizes.ensures.told I) ∙ c.if-not-has_sound_sizes.false)
-      (sym (c.has_sound_first_group.ensures I) ∙ c.if-not-has_sound_first_group.false)
-      whole c.volume_blocks.ensures.blocks c.if-on_device-volume_blocks.false)
+    (sym (c.has_sound_sizes.ensures.told I) ∙ c.if-not-has_sound_sizes.false)
+    (sym (c.has_sound_first_group.ensures I) ∙ c.if-not-has_sound_first_group.false)
+    whole c.volume_blocks.ensures.blocks c.if-on_device-volume_blocks.false)
 
 pub returns-clause-within : goal.returns-clause-within
 returns-clause-within c good =
     all_within c.args.geo.now [] c.args.on_device c.volume_blocks.result (c.has_sound_sizes.ensures.sizes c.if-not-has_sound_sizes.false) c.volume_blocks.ensures.blocks c.if-on_device-volume_blocks.false
-      (sym (c.has_sound_directories.ensures []) ∙ good)
+    (sym (c.has_sound_directories.ensures []) ∙ good)

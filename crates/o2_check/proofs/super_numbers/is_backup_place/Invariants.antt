@@ -1,5 +1,5 @@
 -- What is left decides.
-use Rattle.std.proofs.Common.{◌≡◌, ℕ}
+use Rattle.std.proofs.Common.{◌≡◌}
 use Rattle.o2_check.proofs.Backups.{is_later}
 use Rattle.o2_check.proofs.super_numbers.is_backup_place.Given as goal
 
