@@ -31,6 +31,7 @@ pub use entry::{Entries, Entry};
 pub use fault::{DirFault, PathFault};
 pub use file_bytes::read_bytes;
 pub use names::{look_up, system_file};
+pub use own_inodes::is_dot_entry;
 pub use path_step::{is_directory_at, is_valid_at};
 pub use path_text::{PathText, is_path};
 pub use route::path;

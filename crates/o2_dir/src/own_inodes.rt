@@ -18,7 +18,7 @@ use o2_view::{View, ViewFault};
 use std::alloc::Global;
 
 /// Whether the entry is `.` or `..`.
-fn is_dot_entry(entry: &Entry) -> bool
+pub fn is_dot_entry(entry: &Entry) -> bool
     ensures { result ≡ is_dot (told entry.now) }
 {
     let name = entry.name.as_slice();

@@ -1,9 +1,8 @@
 -- A command line of debugfs, and what was read of it.
-use Rattle.std.proofs.Common.{◌≡◌, ℕ, List, [], ◌∷◌, codes, subst, sym, ap, ◌∙◌, refl}
-use Rattle.std.specs.Prelude.{slice_index_or}
+use Rattle.std.proofs.Common.{◌≡◌, ℕ, List, [], ◌∷◌, codes, subst, sym, refl}
 use Rattle.o2_tools.specs.declared.query_word.Asked.{Asked}
 use Rattle.o2_tools.specs.AskedWords.{IsAsked}
-use Rattle.o2_tools.specs.CommandLine.{Words, IsDevice, IsDebugLine, word_of, device_of}
+use Rattle.o2_tools.specs.CommandLine.{Words, IsDevice}
 use Rattle.o2_tools.specs.Commands.{ReadsAsked}
 use Rattle.o2_tools.proofs.QueryWordLemmas.{asked_word}
 

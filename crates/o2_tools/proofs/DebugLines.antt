@@ -1,10 +1,10 @@
 -- Where words behind `debugfs` leave the grammar.
-use Rattle.std.proofs.Common.{◌≡◌, ◌≢◌, inl, inr, ⊎_elim, ℕ, ◌+◌, ◌<◌, ◌≤◌, List, [], ◌∷◌, length, drop, get_or, String, string_bytes, codes, refl, ap, ◌∙◌, subst, arith, nat_eq, false}
+use Rattle.std.proofs.Common.{◌≡◌, ◌≢◌, inl, inr, ⊎_elim, ℕ, ◌<◌, ◌≤◌, List, [], ◌∷◌, length, drop, get_or, String, string_bytes, codes, refl, ap, ◌∙◌, subst, arith, nat_eq, false}
 use Rattle.std.specs.declared.alloc.Global.{Global}
 use Rattle.o2_tools.specs.declared.cause.Cause.TheVariants.{Usage}
 use Rattle.o2_tools.specs.QueryWords.{IsQueryWord}
-use Rattle.o2_tools.specs.CommandLine.{Words, texts, IsDevice, IsDebugLine, IsDebugfs, IsLine, Begins, IsFirst, AreFirst, IsNotBuilt, RefusesWords}
-use Rattle.o2_tools.proofs.Lines.{apart, disk, begins_none, texts_from, texts_end, behind_two, refused_as, word_at}
+use Rattle.o2_tools.specs.CommandLine.{Words, texts, IsDevice, IsDebugfs, IsLine, Begins, IsFirst, AreFirst, IsNotBuilt, RefusesWords}
+use Rattle.o2_tools.proofs.Lines.{apart, disk, texts_from, texts_end, behind_two, refused_as, word_at}
 
 abbrev debugfs : List ℕ
 debugfs = codes "debugfs"

@@ -5,7 +5,7 @@ use Rattle.std.proofs.lemmas.List.{drop_more, drop_all}
 use Rattle.std.specs.declared.alloc.Global.{Global}
 use Rattle.o2_tools.specs.declared.cause.Cause.{Cause}
 use Rattle.o2_tools.specs.declared.cause.Cause.TheVariants.{Fine, Usage, Later, NotOcfs2, Unsupported, Absent, WrongKind, Bad, Range, DeviceFault, OutputFault, NoMemory}
-use Rattle.o2_tools.specs.CommandLine.{Words, texts, IsDevice, IsLabelLine, IsTunefs, IsDebugfs, IsLine, Begins, IsFirst, AreFirst, IsNotBuilt, RefusesWords, device_of}
+use Rattle.o2_tools.specs.CommandLine.{Words, texts, IsDevice, IsTunefs, IsDebugfs, IsLine, Begins, IsFirst, AreFirst, IsNotBuilt, RefusesWords}
 
 -- texts with other letters at this place are not the same
 pub apart : (k : ℕ) (xs ys : List ℕ) → nat_eq (get_or xs k 0) (get_or ys k 0) ≡ false → xs ≡ ys → ⊥

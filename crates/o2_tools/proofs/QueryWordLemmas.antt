@@ -1,13 +1,12 @@
 -- What a word behind `debugfs -R` does not ask for.
-use Rattle.std.proofs.Common.{◌≡◌, ◌≢◌, inl, inr, ℕ, List, ◌++◌, codes, subst, sym, ◌∙◌}
+use Rattle.std.proofs.Common.{◌≡◌, inl, inr, ℕ, List, ◌++◌, codes, subst, sym, ◌∙◌}
 use Rattle.std.proofs.lemmas.List.{append_cancel_left}
 use Rattle.o2_dir.specs.PathTexts.{IsPath}
-use Rattle.o2_debug.specs.declared.query.Query.{Query}
 use Rattle.o2_debug.specs.declared.query.Query.TheVariants.{Ls, Stat, Cat}
 use Rattle.o2_tools.specs.declared.query_word.Asked.{Asked}
 use Rattle.o2_tools.specs.declared.query_word.Asked.TheVariants as asked
 use Rattle.o2_tools.specs.AskedWords.{IsAsked}
-use Rattle.o2_tools.specs.QueryWords.{IsNumber, NamesPath, NamesNumber, Asks, IsForLater, IsQueryWord}
+use Rattle.o2_tools.specs.QueryWords.{IsNumber, NamesPath, NamesNumber, IsForLater, IsQueryWord}
 
 -- what is behind the name is no path
 pub names_no_path : (name word rest : List ℕ) → word ≡ name ++ rest → (IsPath rest → ⊥) → (path : List ℕ) → NamesPath name path word → ⊥

@@ -1,5 +1,5 @@
 -- What a command read from words says of them.
-use Rattle.std.specs.Prelude.{◌≡◌, ℕ, List, [], slice_index_or}
+use Rattle.std.specs.Prelude.{◌≡◌, ℕ, List}
 use Rattle.o2_debug.specs.declared.query.Query.{Query}
 use Rattle.o2_tools.specs.declared.cause.Cause.{Cause}
 use Rattle.o2_tools.specs.declared.cause.Cause.TheVariants as cause

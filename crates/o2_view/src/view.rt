@@ -48,6 +48,13 @@ impl<'a, D: Disk, const N: usize> View<'a, D, N> {
         })
     }
 
+    /// How many blocks it reads: those below this number.
+    pub fn blocks(&self) -> u64
+        ensures { result ≡ view_blocks self.now }
+    {
+        self.blocks
+    }
+
     /// The bytes of block b.
     pub fn block(&mut self, b: u64) -> Result<Block, ViewFault>
         requires { b < view_blocks self.old }

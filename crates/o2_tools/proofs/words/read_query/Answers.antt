@@ -1,5 +1,5 @@
 -- Where the words end, or leave the grammar.
-use Rattle.std.proofs.Common.{◌<◌, ◌≤◌, length, arith, refl}
+use Rattle.std.proofs.Common.{arith, refl}
 use Rattle.o2_tools.specs.CommandLine.{texts}
 use Rattle.o2_tools.proofs.DebugLines.{second_of, third_of, last_of, fourth_of, fifth_of, whole_of}
 use Rattle.o2_tools.proofs.QueryWordLemmas.{asked_word}

@@ -1,0 +1,76 @@
+-- SUPER's demands on the numbers, one by one.
+use Rattle.std.proofs.Common.{◌≡◌, ℕ, ◌-◌, ◌*◌, ◌/◌, ◌^◌, ◌<◌, ◌≤◌, Bool, true, false, ◌&&◌, not, ◌==◌, nat_le, nat_lt, refl, sym, ◌∙◌, ap, arith}
+use Rattle.std.proofs.lemmas.Bool.{and_left, and_right}
+use Rattle.std.proofs.lemmas.Bool.Decides.{nat_tests}
+use Rattle.o2_disk.specs.Image.{Image}
+use Rattle.o2_model.specs.Words.{among}
+use Rattle.o2_model.specs.Volume.{Volume, per_cluster, blocks}
+use Rattle.o2_model.specs.ClusterGroups.{group_size, backup_clusters}
+use Rattle.o2_model.specs.Checks.Super.{has_sound_sizes, has_sound_first_group, has_sound_directories}
+use Rattle.o2_model.specs.declared.geo.Geo.{Geo}
+use Rattle.o2_extent.specs.Seen.{HasSizes, volume_seen}
+use Rattle.o2_check.specs.Numbers.{is_place, are_sound, AreWithin}
+
+-- ---- the first group
+place_is : (v : Volume) (pc size : ℕ) → pc ≡ per_cluster v → size ≡ group_size v → is_place pc size v.geo ≡ is_place (per_cluster v) (group_size v) v.geo
+place_is v pc size pc_is size_is = ap (λ n. is_place pc n v.geo) size_is ∙ ap (λ n. is_place n (group_size v) v.geo) pc_is
+
+pub no_place : (v : Volume) (pc size : ℕ) → pc ≡ per_cluster v → size ≡ group_size v → is_place pc size v.geo ≡ false → has_sound_first_group v ≡ false
+no_place v pc size pc_is size_is none = and_left _ _ (sym (place_is v pc size pc_is size_is) ∙ none)
+
+true_and : (a b : Bool) → a ≡ true → (a && b) ≡ b
+true_and a b is = rw is refl
+
+pub place_decides : (v : Volume) (pc size : ℕ) → pc ≡ per_cluster v → size ≡ group_size v → is_place pc size v.geo ≡ true
+    → has_sound_first_group v ≡ not (among (backup_clusters v) (v.geo.first_group / pc))
+place_decides v pc size pc_is size_is is =
+    true_and _ _ (sym (place_is v pc size pc_is size_is) ∙ is)
+    ∙ ap (λ n. not (among (backup_clusters v) (v.geo.first_group / n))) (sym pc_is)
+
+-- ---- all numbers
+pub bad_sizes : (v : Volume) → has_sound_sizes v ≡ false → are_sound v ≡ false
+bad_sizes v bad = and_left _ _ (and_left _ _ (and_left _ _ bad))
+
+pub bad_first_group : (v : Volume) → has_sound_first_group v ≡ false → are_sound v ≡ false
+bad_first_group v bad = and_left _ _ (and_left _ _ (and_right _ _ bad))
+
+too_long : (n m : ℕ) → m < n → nat_le n m ≡ false
+too_long n m past = grind (arith, nat_tests)
+
+short_enough : (n m : ℕ) → n ≤ m → nat_le n m ≡ true
+short_enough n m fits = grind (arith, nat_tests)
+
+pub bad_length : (v : Volume) (count n : ℕ) → count ≡ v.on_device → n ≡ blocks v → count < n → are_sound v ≡ false
+bad_length v count n count_is n_is past = and_left _ _ (and_right _ _ (too_long (blocks v) v.on_device (omega (arith, count_is, n_is, past))))
+
+last_of_four : (a b c d : Bool) → a ≡ true → b ≡ true → c ≡ true → (a && b && c && d) ≡ d
+last_of_four a b c d is_a is_b is_c = rw (is_a, is_b, is_c) refl
+
+pub directories_decide : (v : Volume) (count n : ℕ) → has_sound_sizes v ≡ true → has_sound_first_group v ≡ true → count ≡ v.on_device → n ≡ blocks v → n ≤ count
+    → are_sound v ≡ has_sound_directories v
+directories_decide v count n sizes first count_is n_is fits =
+    last_of_four _ _ _ _ sizes first (short_enough (blocks v) v.on_device (omega (arith, count_is, n_is, fits)))
+
+-- ---- what a reader is given
+differ : (n m : ℕ) → not (n == m) ≡ true → n ≡ m → ⊥
+differ n m h is = grind (arith, nat_tests)
+
+and_second : (a b : Bool) → (a && b) ≡ true → b ≡ true
+and_second true b h = h
+and_second false b h = cc
+
+two_within : (root sysdir n count : ℕ) → n ≤ count → ((nat_lt 0 root && nat_lt root n) && (nat_lt 0 sysdir && nat_lt sysdir n) && not (root == sysdir)) ≡ true → (2 < count) × (root < count) × (sysdir < count)
+two_within root sysdir n count fits h =
+    let some_root : 0 < root = grind (arith, nat_tests) in
+    let low_root : root < n = grind (arith, nat_tests) in
+    let some_sysdir : 0 < sysdir = grind (arith, nat_tests) in
+    let low_sysdir : sysdir < n = grind (arith, nat_tests) in
+    let others : root ≡ sysdir → ⊥ = differ root sysdir (and_second ((nat_lt 0 root && nat_lt root n) && (nat_lt 0 sysdir && nat_lt sysdir n)) (not (root == sysdir)) h) in
+    (omega (arith, some_root, low_root, some_sysdir, low_sysdir, others, fits), omega (arith, low_root, fits), omega (arith, low_sysdir, fits))
+
+pub all_within : (geo : Geo) (I : Image) (count n : ℕ) → HasSizes geo → n ≡ geo.clusters * 2 ^ (geo.cluster_bits - geo.block_bits) → n ≤ count
+    → has_sound_directories (volume_seen geo I) ≡ true → AreWithin geo count
+all_within geo I count n sizes n_is fits h =
+    let whole : geo.clusters * 2 ^ (geo.cluster_bits - geo.block_bits) ≤ count = omega (arith, n_is, fits) in
+    let all = two_within geo.root geo.sysdir (geo.clusters * 2 ^ (geo.cluster_bits - geo.block_bits)) count whole h in
+    record { sizes = sizes; volume = whole; super = all.0; root = all.1; sysdir = all.2 }

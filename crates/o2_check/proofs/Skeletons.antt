@@ -1,0 +1,52 @@
+-- The three checks, where their tests hold and where one does not.
+use Rattle.std.proofs.Common.{◌≡◌, ℕ, ◌≤◌, Bool, true, false, ◌&&◌, List, [], refl, sym, ◌∙◌, ap, subst, arith}
+use Rattle.std.proofs.lemmas.Bool.{and_left, or_left, eq-eqb}
+use Rattle.std.proofs.lemmas.List.Elements.{All-push}
+use Rattle.o2_model.specs.Words.{IsLeast, fails_unless}
+use Rattle.o2_model.specs.Orders.{is_none_of}
+use Rattle.o2_model.specs.Volume.{Volume, is_valid}
+use Rattle.o2_model.specs.Inodes.{is_directory}
+use Rattle.o2_model.specs.Checks.Super.{is_sound_super, super_faults}
+use Rattle.o2_model.specs.Checks.Sysdir.{directory_faults, is_sound_directory, sysdir_faults}
+use Rattle.o2_model.specs.Checks.Root.{is_sound_root, root_faults}
+use Rattle.o2_model.specs.declared.check.Check.{Check}
+use Rattle.o2_model.specs.declared.check.Check.TheVariants as check
+use Rattle.o2_check.specs.Skeleton.{HasSkeleton, FailsFirst}
+
+-- ---- a directory
+pub invalid_is_bad : (v : Volume) (d : ℕ) → (is_valid v d && is_directory v d) ≡ false → is_sound_directory v d ≡ false
+unfolding is_sound_directory
+invalid_is_bad v d bad = and_left _ _ bad
+
+true_and : (a b : Bool) → a ≡ true → (a && b) ≡ b
+true_and a b is = rw is refl
+
+pub entries_decide : (v : Volume) (d : ℕ) → (is_valid v d && is_directory v d) ≡ true → is_sound_directory v d ≡ is_none_of (directory_faults v d)
+unfolding is_sound_directory
+entries_decide v d good = true_and _ _ good
+
+-- ---- checks at one block
+holds : (b : ℕ) (test : Bool) → test ≡ true → fails_unless b test ≡ []
+holds b test is = rw is refl
+
+fails : (b : ℕ) (test : Bool) → test ≡ false → IsLeast b (fails_unless b test)
+fails b test is = rw is (record { is_among = or_left _ _ (eq-eqb b b refl); each = All-push (λ (m : ℕ). b ≤ m) [] b (λ k e lt. absurd (omega arith)) (omega arith) })
+
+root_is : (v : Volume) → is_sound_root v ≡ (is_valid v v.geo.root && is_directory v v.geo.root)
+unfolding is_sound_root
+root_is v = refl
+
+-- ---- all three
+pub all_hold : (v : Volume) → is_sound_super v ≡ true → is_sound_directory v v.geo.sysdir ≡ true → (is_valid v v.geo.root && is_directory v v.geo.root) ≡ true → HasSkeleton v
+all_hold v super sysdir root = record {
+  super = holds 2 (is_sound_super v) super;
+  sysdir = holds v.geo.sysdir (is_sound_directory v v.geo.sysdir) sysdir;
+  root = holds v.geo.root (is_sound_root v) (root_is v ∙ root);
+}
+
+pub root_fails : (v : Volume) (c : Check) (b : ℕ) → check.Root ≡ c → v.geo.root ≡ b → is_sound_super v ≡ true → is_sound_directory v v.geo.sysdir ≡ true
+    → (is_valid v v.geo.root && is_directory v v.geo.root) ≡ false → FailsFirst v c b
+root_fails v c b c_is b_is super sysdir root =
+    subst (λ (k : Check). FailsFirst v k b) c_is
+      (holds 2 (is_sound_super v) super, holds v.geo.sysdir (is_sound_directory v v.geo.sysdir) sysdir,
+      subst (λ (n : ℕ). IsLeast n (root_faults v)) b_is (fails v.geo.root (is_sound_root v) (root_is v ∙ root)))

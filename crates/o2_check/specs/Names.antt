@@ -1,0 +1,9 @@
+-- Names that a reader of a directory met.
+use Rattle.std.specs.Prelude.{ℕ, Bool, bytes_eq, List}
+use Rattle.std.specs.List.{list_any}
+use Rattle.std.specs.BTreeSet.{BTreeSet}
+use Rattle.std.specs.Global.{Vec}
+
+-- the name is one of them
+abbrev pub has_name : BTreeSet (Vec ℕ) → List ℕ → Bool
+has_name names name = list_any (λ (met : Vec ℕ). bytes_eq name met.items) names.keys

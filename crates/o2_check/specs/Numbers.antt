@@ -1,0 +1,30 @@
+-- What SUPER asks of the numbers alone, and what a reader of the volume is given by it.
+use Rattle.std.specs.Prelude.{ℕ, ◌-◌, ◌*◌, ◌/◌, ◌%◌, ◌^◌, ◌<◌, ◌≤◌, Bool, ◌&&◌, ◌==◌, nat_lt, nat_le}
+use Rattle.o2_model.specs.Volume.{Volume, blocks}
+use Rattle.o2_model.specs.Checks.Super.{has_sound_sizes, has_sound_first_group, has_sound_directories}
+use Rattle.o2_model.specs.declared.geo.Geo.{Geo}
+use Rattle.o2_extent.specs.Seen.{HasSizes}
+
+-- the first group descriptor begins a cluster behind the superblock, one of a group of this size and of the volume
+abbrev pub is_place : ℕ → ℕ → Geo → Bool
+is_place pc size geo =
+    geo.first_group % pc == 0
+    && nat_le 3 geo.first_group
+    && nat_lt (geo.first_group / pc) size
+    && nat_lt (geo.first_group / pc) geo.clusters
+
+-- the numbers fit one another and the device
+abbrev pub are_sound : Volume → Bool
+are_sound v =
+    has_sound_sizes v
+    && has_sound_first_group v
+    && nat_le (blocks v) v.on_device
+    && has_sound_directories v
+
+-- sizes that a volume can have, and the volume, its super, its root and its system directory are below this block
+pub record AreWithin (geo : Geo) (count : ℕ) : Type 0 where
+  pub sizes : HasSizes geo
+  pub volume : geo.clusters * 2 ^ (geo.cluster_bits - geo.block_bits) ≤ count
+  pub super : 2 < count
+  pub root : geo.root < count
+  pub sysdir : geo.sysdir < count
