@@ -3,4 +3,5 @@ pub mod AtPath
 pub mod CatLemmas
 pub mod Fronts
 pub mod Judged
+pub mod Starts
 pub mod TextLemmas

@@ -3,6 +3,7 @@
 
 mod at_path;
 mod cat;
+mod commands;
 mod fault;
 mod last_object;
 mod lines;
@@ -13,6 +14,7 @@ mod query;
 mod text;
 
 pub use at_path::answer_at_path;
+pub use commands::command;
 pub use fault::DebugFault;
 pub use last_object::answer;
 pub use output::{put_lines, put_text};

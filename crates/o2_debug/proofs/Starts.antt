@@ -1,0 +1,31 @@
+-- A sound skeleton has where paths begin.
+use Rattle.std.proofs.Common.{◌≡◌, inl, inr, ℕ, Bool, true, false, ◌&&◌, List, [], ◌∷◌, refl}
+use Rattle.std.proofs.lemmas.Bool.{cases_Bool}
+use Rattle.o2_model.specs.Words.{fails_unless}
+use Rattle.o2_model.specs.Volume.{Volume, is_valid}
+use Rattle.o2_model.specs.Checks.Sysdir.{is_sound_directory}
+use Rattle.o2_model.specs.Checks.Root.{is_sound_root}
+use Rattle.o2_check.specs.Skeleton.{HasSkeleton}
+use Rattle.o2_debug.specs.Commands.{HasStarts}
+
+holds : (b : ℕ) (test : Bool) → fails_unless b test ≡ [] → test ≡ true
+holds b true none = refl
+holds b false none = absurd (let some : ⊥ = cc none in some)
+
+first_of : (x y : Bool) → (x && y) ≡ true → x ≡ true
+first_of true y both = refl
+first_of false y both = both
+
+root_is_valid : (v : Volume) → is_sound_root v ≡ true → is_valid v v.geo.root ≡ true
+unfolding is_sound_root
+root_is_valid v sound = first_of _ _ sound
+
+directory_is_valid : (v : Volume) (d : ℕ) → is_sound_directory v d ≡ true → is_valid v d ≡ true
+unfolding is_sound_directory
+directory_is_valid v d sound = first_of (is_valid v d) _ (first_of _ _ sound)
+
+pub starts : (v : Volume) → HasSkeleton v → HasStarts v
+starts v h = record {
+  root = root_is_valid v (holds v.geo.root (is_sound_root v) h.root);
+  sysdir = directory_is_valid v v.geo.sysdir (holds v.geo.sysdir (is_sound_directory v v.geo.sysdir) h.sysdir);
+}
