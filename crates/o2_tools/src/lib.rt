@@ -7,6 +7,7 @@ mod label;
 mod program;
 mod query_word;
 mod superblock;
+mod tell;
 #[cfg(test)]
 mod tests;
 mod words;
