@@ -5,4 +5,5 @@ pub mod Opened
 pub mod QueryWordLemmas
 pub mod Refusals
 pub mod Relabels
+pub mod Told
 pub mod WholeDevice

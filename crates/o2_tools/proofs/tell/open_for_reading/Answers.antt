@@ -15,8 +15,7 @@ returns-in-Some-unsupported-clause-refused g c I content =
 
 pub returns-in-None-clause-found : goal.returns-in-None-clause-found
 returns-in-None-clause-found g c I content =
-    let found = subst (λ (o : Option SuperSector). MatchOption o (superblock_bits I ≡ None) (λ s. (superblock_bits I ≡ Some s.bits) × IsSuperSector I s)) c.in-Some.is (c.in_ok-sector.ensures.found I (c.attach.ensures.same.content ∙ content)) in
-    (
+    let found = subst (λ (o : Option SuperSector). MatchOption o (superblock_bits I ≡ None) (λ s. (superblock_bits I ≡ Some s.bits) × IsSuperSector I s)) c.in-Some.is (c.in_ok-sector.ensures.found I (c.attach.ensures.same.content ∙ content)) in (
       opened_read I c.in-Some.sector found c.geometry.result c.geometry.ensures.told c.geometry.ensures.volume (subst (λ (o : Option SuperSector). IfSome o TellsSuper) c.in-Some.is c.in_ok-sector.ensures.tells),
       feature_read I c.in-Some.sector found None c.superblock.result c.cluster_count.result c.superblock.ensures.volume c.cluster_count.ensures.volume c.in-None.ensures,
     )
