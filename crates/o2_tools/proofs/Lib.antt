@@ -1,5 +1,6 @@
 pub mod AskedLines
 pub mod DebugLines
+pub mod Ends
 pub mod Lines
 pub mod Opened
 pub mod QueryWordLemmas

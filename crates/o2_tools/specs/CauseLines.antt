@@ -19,3 +19,14 @@ cause_line tool (Range which value) = tool ++ (codes ": out of range: " ++ (whic
 cause_line tool DeviceFault = tool ++ codes ": device fault\n"
 cause_line tool OutputFault = []
 cause_line tool NoMemory = []
+
+-- what tunefs says where all was done
+abbrev pub done_text : List ℕ
+done_text = codes "tunefs: done\n"
+
+-- what is printed where nothing of a volume is asked: that tunefs is done, or the cause's line; where the output failed,
+-- what would have been printed without that
+abbrev pub reply_text : List ℕ → Cause → List ℕ
+reply_text tool Fine = done_text
+reply_text tool OutputFault = done_text
+reply_text tool cause = cause_line tool cause

@@ -88,6 +88,10 @@ RefusesWords words (Range which value) = ⊥
 RefusesWords words DeviceFault = ⊥
 RefusesWords words OutputFault = ⊥
 
+-- the first word, or nothing
+abbrev pub tool_of : Words → List ℕ
+tool_of words = slice_index_or words 0 []
+
 -- the label that a command line of tunefs gives
 abbrev pub label_of : Words → List ℕ
 label_of words = slice_index_or words 2 []

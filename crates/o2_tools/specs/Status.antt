@@ -38,3 +38,9 @@ IsRefusal (Range which value) = Unit {0}
 IsRefusal DeviceFault = ⊥
 IsRefusal OutputFault = ⊥
 IsRefusal NoMemory = ⊥
+
+-- all was done, maybe but for the output
+abbrev pub IsDone : Cause → Type 0
+IsDone Fine = Unit {0}
+IsDone OutputFault = Unit {0}
+IsDone _ = ⊥

@@ -19,6 +19,6 @@ returns-in-Err-clause-answer g c I told =
     let after = c.open_for_reading.ensures.reads.content ∙ told in
     subst (λ (cause : Cause). ComesFor c.args.query I (g.K.Sink.state c.args.out.now) (g.K.Sink.state c.ask.new.out) cause) (sym c.cause_for.ensures)
     (comes_fault c.args.query I (volume_seen c.in_ok-geo.geo I) _ _ found.0 found.1 (c.ask.ensures.some I after) c.in-Err.fault
-        (λ is. c.in-Err.ensures.absent (ap (λ (f : DebugFault). Err f) is) I after)
-        (λ is. c.in-Err.ensures.kind (ap (λ (f : DebugFault). Err f) is) I after)
-        (λ check block is. c.in-Err.ensures.bad check block is I after))
+    (λ is. c.in-Err.ensures.absent (ap (λ (f : DebugFault). Err f) is) I after)
+    (λ is. c.in-Err.ensures.kind (ap (λ (f : DebugFault). Err f) is) I after)
+    (λ check block is. c.in-Err.ensures.bad check block is I after))
