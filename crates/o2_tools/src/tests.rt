@@ -14,6 +14,9 @@ const SECTORS: u64 = 131_072;
 
 const SUPER_SECTOR: u64 = 16;
 
+// What tunefs prints where all was done.
+const DONE: &str = "tunefs: done\n";
+
 // The first sector of block 2: block bits and cluster bits 12, so many clusters, and the label `old`.
 fn super_sector(clusters: u32) -> [u8; 512] {
     let mut sector = [0; 512];
@@ -41,37 +44,34 @@ fn device(rt: &impl Abort, alloc: Global, at: u64, sector: &[u8; 512]) -> Result
     Ok(disk.resized(alloc, SECTORS)?)
 }
 
-// The end of a run: its status, and the line of its cause.
+// The end of a run: its status, and what the sink took.
 #[derive(Drop)]
 struct Ended {
     status: u8,
-    line: String,
+    text: Vec<u8>,
 }
 
 fn run_words(alloc: Global, disk: &mut MemDisk, words: &[&str]) -> Result<Ended, Fail> {
+    let mut out = MemSink::new(alloc);
+    run_into(alloc, disk, words, &mut out)
+}
+
+fn run_into(
+    alloc: Global,
+    disk: &mut MemDisk,
+    words: &[&str],
+    out: &mut MemSink,
+) -> Result<Ended, Fail> {
     let mut line = Vec::new(alloc);
     for word in words {
         line.push(String::from_str(alloc, word)?)?;
     }
     let mut other = MemDisk::new(alloc, 0)?;
-    let mut out = MemSink::new(alloc);
     let random = [7; 24];
-    let done = run(
-        alloc,
-        &line,
-        disk,
-        &mut other,
-        &mut out,
-        1_700_000_000,
-        &random,
-    );
-    let tool = match line.first() {
-        Some(word) => word.as_str(),
-        None => "",
-    };
+    let done = run(alloc, &line, disk, &mut other, out, 1_700_000_000, &random);
     Ok(Ended {
         status: done.status,
-        line: done.cause.line(alloc, tool)?,
+        text: Vec::from_slice(alloc, out.bytes())?,
     })
 }
 
@@ -99,7 +99,7 @@ fn with_label(sector: &[u8; 512], label: &[u8]) -> [u8; 512] {
 }
 
 // Each line of words, parted by bars, and the line by which it is refused.
-const REFUSED: [(&str, &str); 53] = [
+const REFUSED: [(&str, &str); 51] = [
     ("", "usage: word 0\n"),
     ("Tunefs", "usage: word 0\n"),
     ("tunefs ", "usage: word 0\n"),
@@ -155,8 +155,6 @@ const REFUSED: [(&str, &str); 53] = [
         "debugfs|-R|icheck 123456789012345678|disk",
         "debugfs: not built yet\n",
     ),
-    ("debugfs|-R|ls /|disk", "debugfs: not built yet\n"),
-    ("debugfs|-R|cat //a b/c|disk", "debugfs: not built yet\n"),
     ("sample|1000|disk", "sample: not built yet\n"),
     ("tunefs|-N", "tunefs: not built yet\n"),
     ("tunefs|-N|4|disk", "tunefs: not built yet\n"),
@@ -169,11 +167,14 @@ fn refuses_words(rt: HostRuntime) -> Result<(), Fail> {
     let alloc = rt.alloc();
     let mut disk = device(&rt, alloc, SUPER_SECTOR, &super_sector(16_384))?;
     let done = run_words(alloc, &mut disk, &[])?;
-    assert_eq!(rt; (done.status, done.line.as_str()), (16, "usage: word 0\n"));
+    assert_eq!(rt;
+        (done.status, done.text.as_slice()),
+        (16, "usage: word 0\n".as_bytes())
+    );
     for (line, text) in REFUSED {
         let words: Vec<&str> = line.split('|').collect(alloc)?;
         let done = run_words(alloc, &mut disk, &words)?;
-        assert_eq!(rt; done.line.as_str(), text, "{line}");
+        assert_eq!(rt; done.text.as_slice(), text.as_bytes(), "{line}");
         let is_usage = text.starts_with("usage");
         assert_eq!(rt; done.status, if is_usage { 16 } else { 1 }, "{line}");
     }
@@ -187,10 +188,10 @@ fn labels_a_volume(rt: HostRuntime) -> Result<(), Fail> {
     let long = "a".repeat(alloc, 65)?;
     // the clusters, the label, and the status and the line that they give
     for (clusters, label, status, line) in [
-        (16_384, "vol", 0, ""),
-        (16_384, "", 0, ""),
-        (262_144, "vol", 0, ""),
-        (16_384, &long[..64], 0, ""),
+        (16_384, "vol", 0, DONE),
+        (16_384, "", 0, DONE),
+        (262_144, "vol", 0, DONE),
+        (16_384, &long[..64], 0, DONE),
         (262_145, "vol", 1, "tunefs: not built yet\n"),
         (16_384, long.as_str(), 1, "tunefs: out of range: label 65\n"),
     ] {
@@ -198,8 +199,8 @@ fn labels_a_volume(rt: HostRuntime) -> Result<(), Fail> {
         let mut disk = device(&rt, alloc, SUPER_SECTOR, &before)?;
         let done = run_words(alloc, &mut disk, &["tunefs", "-L", label, "disk"])?;
         assert_eq!(rt;
-            (done.status, done.line.as_str()),
-            (status, line),
+            (done.status, done.text.as_slice()),
+            (status, line.as_bytes()),
             "{label}"
         );
         let mut field = [0; 64];
@@ -220,15 +221,15 @@ fn finds_no_volume(rt: HostRuntime) -> Result<(), Fail> {
     let mut disk = MemDisk::new(alloc, SECTORS)?;
     let done = run_words(alloc, &mut disk, &["tunefs", "-L", "vol", "disk"])?;
     assert_eq!(rt;
-        (done.status, done.line.as_str()),
-        (1, "tunefs: not an OCFS2 volume\n")
+        (done.status, done.text.as_slice()),
+        (1, "tunefs: not an OCFS2 volume\n".as_bytes())
     );
     // nor where the device ends within block 2
     let mut short = device(&rt, alloc, SUPER_SECTOR, &super_sector(16_384))?.resized(alloc, 23)?;
     let done = run_words(alloc, &mut short, &["tunefs", "-L", "vol", "disk"])?;
     assert_eq!(rt;
-        (done.status, done.line.as_str()),
-        (1, "tunefs: not an OCFS2 volume\n")
+        (done.status, done.text.as_slice()),
+        (1, "tunefs: not an OCFS2 volume\n".as_bytes())
     );
     Ok(())
 }
@@ -262,8 +263,8 @@ fn one_call_fails(rt: HostRuntime) -> Result<(), Fail> {
         disk.fail_at(call);
         let done = run_words(alloc, &mut disk, &["tunefs", "-L", "vol", "disk"])?;
         assert_eq!(rt;
-            (done.status, done.line.as_str()),
-            (8, "tunefs: device fault\n"),
+            (done.status, done.text.as_slice()),
+            (8, "tunefs: device fault\n".as_bytes()),
             "{call}"
         );
         assert_eq!(rt; disk.calls(), call + 1);
@@ -278,8 +279,8 @@ fn one_call_fails(rt: HostRuntime) -> Result<(), Fail> {
     disk.fail_attach();
     let done = run_words(alloc, &mut disk, &["tunefs", "-L", "vol", "disk"])?;
     assert_eq!(rt;
-        (done.status, done.line.as_str()),
-        (8, "tunefs: device fault\n")
+        (done.status, done.text.as_slice()),
+        (8, "tunefs: device fault\n".as_bytes())
     );
     Ok(())
 }

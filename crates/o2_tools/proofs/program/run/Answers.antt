@@ -20,22 +20,22 @@ returns-in-Ok-clause-output g c other quiet =
     let state = g.K.Sink.state in
     subst (λ (cause : Cause). Takes (state c.args.out.now) (state c.report.new.out) (reply_text (tool_of (texts c.args.words.now)) cause)) (sym c.by.ensures.cause)
     (output_of (tool_of (texts c.args.words.now)) _ (state c.obey-cause.new.out) _ c.obey-cause.result
-        (λ not_done. ap state (c.obey-cause.ensures.unsaid other not_done))
-        (c.obey-cause.ensures.said other)
-        c.obey-cause.ensures.output
-        (λ none. ap state (c.report.ensures.still none))
-        c.in-Ok.ensures.all
-        quiet)
+    (λ not_done. ap state (c.obey-cause.ensures.unsaid other not_done))
+    (c.obey-cause.ensures.said other)
+    c.obey-cause.ensures.output
+    (λ none. ap state (c.report.ensures.still none))
+    c.in-Ok.ensures.all
+    quiet)
 
 pub returns-in-Ok-clause-front : goal.returns-in-Ok-clause-front
 returns-in-Ok-clause-front g c other =
     let state = g.K.Sink.state in
     subst (λ (cause : Cause). TakesSome (state c.args.out.now) (state c.report.new.out) (reply_text (tool_of (texts c.args.words.now)) cause)) (sym c.by.ensures.cause)
     (front_of (tool_of (texts c.args.words.now)) _ (state c.obey-cause.new.out) _ c.obey-cause.result
-        (λ not_done. ap state (c.obey-cause.ensures.unsaid other not_done))
-        (c.obey-cause.ensures.some other)
-        (λ none. ap state (c.report.ensures.still none))
-        c.in-Ok.ensures.some)
+    (λ not_done. ap state (c.obey-cause.ensures.unsaid other not_done))
+    (c.obey-cause.ensures.some other)
+    (λ none. ap state (c.report.ensures.still none))
+    c.in-Ok.ensures.some)
 
 pub returns-in-Ok-clause-alone_line : goal.returns-in-Ok-clause-alone_line
 returns-in-Ok-clause-alone_line g c asks I told refused quiet =
