@@ -1,6 +1,10 @@
 pub mod AskedLines
 pub mod DebugLines
+pub mod Ends
 pub mod Lines
+pub mod Opened
 pub mod QueryWordLemmas
 pub mod Refusals
 pub mod Relabels
+pub mod Told
+pub mod WholeDevice

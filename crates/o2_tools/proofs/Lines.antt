@@ -4,7 +4,7 @@ use Rattle.std.proofs.lemmas.Bool.Decides.{nat_tests}
 use Rattle.std.proofs.lemmas.List.{drop_more, drop_all}
 use Rattle.std.specs.declared.alloc.Global.{Global}
 use Rattle.o2_tools.specs.declared.cause.Cause.{Cause}
-use Rattle.o2_tools.specs.declared.cause.Cause.TheVariants.{Fine, Usage, Later, NotOcfs2, Range, DeviceFault, NoMemory}
+use Rattle.o2_tools.specs.declared.cause.Cause.TheVariants.{Fine, Usage, Later, NotOcfs2, Unsupported, Absent, WrongKind, Bad, Range, DeviceFault, OutputFault, NoMemory}
 use Rattle.o2_tools.specs.CommandLine.{Words, texts, IsDevice, IsTunefs, IsDebugfs, IsLine, Begins, IsFirst, AreFirst, IsNotBuilt, RefusesWords}
 
 -- texts with other letters at this place are not the same
@@ -316,8 +316,13 @@ no_usage words Later place line refused is = cc is
 no_usage words NoMemory place line refused is = cc is
 no_usage words Fine place line refused is = refused
 no_usage words NotOcfs2 place line refused is = refused
+no_usage words (Unsupported what block) place line refused is = refused
+no_usage words (Absent path) place line refused is = refused
+no_usage words (WrongKind path) place line refused is = refused
+no_usage words (Bad check block) place line refused is = refused
 no_usage words (Range which value) place line refused is = refused
 no_usage words DeviceFault place line refused is = refused
+no_usage words OutputFault place line refused is = refused
 
 -- one of tunefs is refused for want of memory alone
 pub refused_tunefs : (words : Words) (cause : Cause) → IsTunefs words → RefusesWords words cause → cause ≡ NoMemory
@@ -327,8 +332,13 @@ refused_tunefs words (Usage place) line refused = absurd (refused.1.no_line (inl
 refused_tunefs words NoMemory line refused = refl
 refused_tunefs words Fine line refused = absurd refused
 refused_tunefs words NotOcfs2 line refused = absurd refused
+refused_tunefs words (Unsupported what block) line refused = absurd refused
+refused_tunefs words (Absent path) line refused = absurd refused
+refused_tunefs words (WrongKind path) line refused = absurd refused
+refused_tunefs words (Bad check block) line refused = absurd refused
 refused_tunefs words (Range which value) line refused = absurd refused
 refused_tunefs words DeviceFault line refused = absurd refused
+refused_tunefs words OutputFault line refused = absurd refused
 
 -- one of debugfs waits for a later version, or is refused for want of memory
 pub refused_debugfs : (words : Words) (cause : Cause) → IsDebugfs words → RefusesWords words cause → (cause ≡ Later) ⊎ (cause ≡ NoMemory)
@@ -337,8 +347,13 @@ refused_debugfs words (Usage place) line refused = absurd (refused.1.no_line (in
 refused_debugfs words NoMemory line refused = inr refl
 refused_debugfs words Fine line refused = absurd refused
 refused_debugfs words NotOcfs2 line refused = absurd refused
+refused_debugfs words (Unsupported what block) line refused = absurd refused
+refused_debugfs words (Absent path) line refused = absurd refused
+refused_debugfs words (WrongKind path) line refused = absurd refused
+refused_debugfs words (Bad check block) line refused = absurd refused
 refused_debugfs words (Range which value) line refused = absurd refused
 refused_debugfs words DeviceFault line refused = absurd refused
+refused_debugfs words OutputFault line refused = absurd refused
 
 -- no words are a line of both
 pub not_both : (words : Words) → IsTunefs words → IsDebugfs words → ⊥

@@ -6,7 +6,7 @@ use Rattle.o2_model.specs.Image.{Image}
 use Rattle.o2_model.specs.Superblock.{superblock, superblock_bits, cluster_count}
 use Rattle.o2_model.specs.Features.{unsupported_in}
 use Rattle.o2_tools.specs.declared.cause.Cause.{Cause}
-use Rattle.o2_tools.specs.declared.cause.Cause.TheVariants.{Fine, Later, NotOcfs2, Range, DeviceFault, NoMemory}
+use Rattle.o2_tools.specs.declared.cause.Cause.TheVariants.{Fine, Later, NotOcfs2, Range, DeviceFault, OutputFault, NoMemory}
 use Rattle.o2_view.specs.declared.which.Which.TheVariants.{Label}
 
 -- A volume that is not served yet: it has a feature outside the profile, or clusters of another size than 4 KiB to
@@ -33,7 +33,8 @@ refusal_of label I = option_or (volume_refusal I) (label_refusal label)
 abbrev pub IsCauseFor : Option Cause → Cause → Type 0
 IsCauseFor refusal cause = (refusal ≡ Some cause) ⊎ (cause ≡ DeviceFault) ⊎ (cause ≡ NoMemory)
 
--- the answer to a request with this first refusal, or none: the refusal, or Fine; or the device failed, or memory ran out
+-- the answer to a request with this first refusal, or none: the refusal, or Fine, which a fault of the output stands in
+-- place of; or the device failed, or memory ran out
 abbrev pub IsAnswer : Option Cause → Cause → Type 0
-IsAnswer None cause = (cause ≡ Fine) ⊎ (cause ≡ DeviceFault) ⊎ (cause ≡ NoMemory)
+IsAnswer None cause = (cause ≡ Fine) ⊎ (cause ≡ OutputFault) ⊎ (cause ≡ DeviceFault) ⊎ (cause ≡ NoMemory)
 IsAnswer (Some refusal) cause = (cause ≡ refusal) ⊎ (cause ≡ DeviceFault) ⊎ (cause ≡ NoMemory)

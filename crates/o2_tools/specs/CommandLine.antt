@@ -3,7 +3,7 @@ use Rattle.std.specs.Prelude.{◌≡◌, ◌≢◌, ◌⊎◌, ℕ, ◌+◌, ◌
 use Rattle.std.specs.declared.alloc.Global.{Global}
 use Rattle.o2_tools.specs.QueryWords.{IsForLater, IsQueryWord}
 use Rattle.o2_tools.specs.declared.cause.Cause.{Cause}
-use Rattle.o2_tools.specs.declared.cause.Cause.TheVariants.{Fine, Usage, Later, NotOcfs2, Range, DeviceFault, NoMemory}
+use Rattle.o2_tools.specs.declared.cause.Cause.TheVariants.{Fine, Usage, Later, NotOcfs2, Unsupported, Absent, WrongKind, Bad, Range, DeviceFault, OutputFault, NoMemory}
 
 -- the words behind the program's name
 abbrev pub Words : Type 0
@@ -80,8 +80,17 @@ RefusesWords words (Usage place) = (IsNotBuilt words → ⊥) × LeavesAt words 
 RefusesWords words NoMemory = Unit {0}
 RefusesWords words Fine = ⊥
 RefusesWords words NotOcfs2 = ⊥
+RefusesWords words (Unsupported what block) = ⊥
+RefusesWords words (Absent path) = ⊥
+RefusesWords words (WrongKind path) = ⊥
+RefusesWords words (Bad check block) = ⊥
 RefusesWords words (Range which value) = ⊥
 RefusesWords words DeviceFault = ⊥
+RefusesWords words OutputFault = ⊥
+
+-- the first word, or nothing
+abbrev pub tool_of : Words → List ℕ
+tool_of words = slice_index_or words 0 []
 
 -- the label that a command line of tunefs gives
 abbrev pub label_of : Words → List ℕ

@@ -38,3 +38,11 @@ Says (Debug query device) words = ReadsQuery query device words
 pub record ReadsAsked (asked : Asked) (words : Words) : Type 0 where
   pub line : IsDebugLine (word_of words) (device_of words) words
   pub asks : IsAsked asked (word_of words)
+
+-- the words are a command line of debugfs that asks this query, which is answered
+abbrev pub AsksFor : Query → Words → Type 0
+AsksFor query words = ReadsQuery query 3 words
+
+-- or some query
+abbrev pub AsksQuery : Words → Type 0
+AsksQuery words = (query : Query) × AsksFor query words

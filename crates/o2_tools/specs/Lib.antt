@@ -4,4 +4,5 @@ pub mod CauseLines
 pub mod CommandLine
 pub mod Commands
 pub mod QueryWords
+pub mod Replies
 pub mod Status

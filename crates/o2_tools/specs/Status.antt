@@ -3,15 +3,20 @@ use Rattle.std.specs.Prelude.{◌≡◌, ℕ}
 use Rattle.o2_disk.specs.declared.disk.AttachFault.{AttachFault}
 use Rattle.o2_disk.specs.declared.disk.AttachFault.TheVariants.{NoMemory as NoMemoryForName, Failed as NotAttached}
 use Rattle.o2_tools.specs.declared.cause.Cause.{Cause}
-use Rattle.o2_tools.specs.declared.cause.Cause.TheVariants.{Fine, Usage, Later, NotOcfs2, Range, DeviceFault, NoMemory}
+use Rattle.o2_tools.specs.declared.cause.Cause.TheVariants.{Fine, Usage, Later, NotOcfs2, Unsupported, Absent, WrongKind, Bad, Range, DeviceFault, OutputFault, NoMemory}
 
 abbrev pub status_of : Cause → ℕ
 status_of Fine = 0
 status_of (Usage place) = 16
 status_of Later = 1
 status_of NotOcfs2 = 1
+status_of (Unsupported what block) = 1
+status_of (Absent path) = 1
+status_of (WrongKind path) = 1
+status_of (Bad check block) = 1
 status_of (Range which value) = 1
 status_of DeviceFault = 8
+status_of OutputFault = 65
 status_of NoMemory = 64
 
 -- a device that is not attached
@@ -25,6 +30,17 @@ IsRefusal Fine = ⊥
 IsRefusal (Usage place) = Unit {0}
 IsRefusal Later = Unit {0}
 IsRefusal NotOcfs2 = Unit {0}
+IsRefusal (Unsupported what block) = Unit {0}
+IsRefusal (Absent path) = Unit {0}
+IsRefusal (WrongKind path) = Unit {0}
+IsRefusal (Bad check block) = Unit {0}
 IsRefusal (Range which value) = Unit {0}
 IsRefusal DeviceFault = ⊥
+IsRefusal OutputFault = ⊥
 IsRefusal NoMemory = ⊥
+
+-- all was done, maybe but for the output
+abbrev pub IsDone : Cause → Type 0
+IsDone Fine = Unit {0}
+IsDone OutputFault = Unit {0}
+IsDone _ = ⊥

@@ -1,13 +1,16 @@
 // How a run ends.
-ghost use Rattle.std.specs.Prelude.{◌≡◌};
+ghost use Rattle.std.specs.Prelude.{◌≡◌, ◌++◌, codes, IfOk, string_bytes};
+ghost use Rattle.o2_tools.specs.CauseLines.{cause_line};
 ghost use Rattle.o2_disk.specs.declared.disk.AttachFault.TheVariants.{NoMemory as NoMemoryForName, Failed as NotAttached};
 
+use o2_dir::PathText;
 use o2_disk::{AttachFault, Failed};
+use o2_model::{Check, Oddity};
 use o2_view::Which;
 use std::alloc::{AllocError, Global};
 
 /// Why a run ended.
-#[derive(Clone, Copy, Debug, PartialEq, Eq)]
+#[derive(Debug, Drop)]
 pub enum Cause {
     /// All was done.
     Fine,
@@ -17,10 +20,20 @@ pub enum Cause {
     Later,
     /// The device has no superblock.
     NotOcfs2,
+    /// The volume has this, which is outside the profile, and this block tells so.
+    Unsupported { what: Oddity, block: u64 },
+    /// A name of this path has no live entry.
+    Absent { path: PathText },
+    /// A name in the middle of this path is no directory, or what stands at its end is of another kind than is asked for.
+    WrongKind { path: PathText },
+    /// What is looked at fails this check at this block, the first that it fails.
+    Bad { check: Check, block: u64 },
     /// A number is out of its range.
     Range { which: Which, value: u64 },
     /// A call of the device failed.
     DeviceFault,
+    /// A call of the output's sink failed, and all was done but for the output.
+    OutputFault,
     /// There is no memory for what was asked.
     NoMemory,
 }
@@ -29,38 +42,70 @@ impl Cause {
     ghost use Rattle.o2_tools.specs.Status.{status_of};
 
     /// The status that the program ends with.
-    pub fn status(self) -> u8
-        ensures { result ≡ status_of self }
+    pub fn status(&self) -> u8
+        ensures { result ≡ status_of self.now }
     {
         match self {
             Cause::Fine => 0,
-            Cause::Later | Cause::NotOcfs2 | Cause::Range { .. } => 1,
+            Cause::Later
+            | Cause::NotOcfs2
+            | Cause::Unsupported { .. }
+            | Cause::Absent { .. }
+            | Cause::WrongKind { .. }
+            | Cause::Bad { .. }
+            | Cause::Range { .. } => 1,
             Cause::DeviceFault => 8,
             Cause::Usage { .. } => 16,
             Cause::NoMemory => 64,
+            Cause::OutputFault => 65,
         }
     }
 }
 
 impl Cause {
-    ghost use Rattle.std.specs.Prelude.{IfOk, string_bytes};
-    ghost use Rattle.o2_tools.specs.CauseLines.{cause_line};
-
     /// The line that it prints, with its newline, where the first word is this tool. It is empty where nothing is printed.
-    pub fn line(self, alloc: Global, tool: &str) -> Result<String, AllocError>
-        ensures { IfOk result (λ line. string_bytes line ≡ cause_line tool.now self) }
+    pub fn line(&self, alloc: Global, tool: &str) -> Result<String, AllocError>
+        ensures { IfOk result (λ line. string_bytes line ≡ cause_line tool.now self.now) }
     {
         match self {
-            Cause::Fine | Cause::NoMemory => Ok(String::new(alloc)),
+            Cause::Fine | Cause::OutputFault | Cause::NoMemory => Ok(String::new(alloc)),
             Cause::Usage { place } => format!(in alloc; "usage: word {place}\n"),
-            Cause::Later => format!(in alloc; "{tool}: not built yet\n"),
-            Cause::NotOcfs2 => format!(in alloc; "{tool}: not an OCFS2 volume\n"),
-            Cause::Range { which, value } => {
-                format!(in alloc; "{tool}: out of range: {which} {value}\n")
+            Cause::Later => tool_line(alloc, tool, "not built yet"),
+            Cause::NotOcfs2 => tool_line(alloc, tool, "not an OCFS2 volume"),
+            Cause::Unsupported { what, block } => unsupported_line(alloc, tool, *what, *block),
+            Cause::Absent { path } => format!(in alloc; "debugfs: no such path: {path}\n"),
+            Cause::WrongKind { path } => format!(in alloc; "debugfs: wrong kind: {path}\n"),
+            Cause::Bad { check, block } => {
+                format!(in alloc; "debugfs: damaged: {check} block {block}\n")
             }
-            Cause::DeviceFault => format!(in alloc; "{tool}: device fault\n"),
+            Cause::Range { which, value } => range_line(alloc, tool, *which, *value),
+            Cause::DeviceFault => tool_line(alloc, tool, "device fault"),
         }
     }
+}
+
+// What a tool says.
+fn tool_line(alloc: Global, tool: &str, text: &str) -> Result<String, AllocError>
+    ensures { IfOk result (λ line. string_bytes line ≡ tool.now ++ (codes ": " ++ (text.now ++ codes "\n"))) }
+{
+    format!(in alloc; "{tool}: {text}\n")
+}
+
+fn unsupported_line(
+    alloc: Global,
+    tool: &str,
+    what: Oddity,
+    block: u64,
+) -> Result<String, AllocError>
+    ensures { IfOk result (λ line. string_bytes line ≡ cause_line tool.now (Cause.Unsupported what block)) }
+{
+    format!(in alloc; "{tool}: unsupported: {what} block {block}\n")
+}
+
+fn range_line(alloc: Global, tool: &str, which: Which, value: u64) -> Result<String, AllocError>
+    ensures { IfOk result (λ line. string_bytes line ≡ cause_line tool.now (Cause.Range which value)) }
+{
+    format!(in alloc; "{tool}: out of range: {which} {value}\n")
 }
 
 impl From<Failed> for Cause {
@@ -88,7 +133,7 @@ impl From<AttachFault> for Cause {
 }
 
 /// The end of a run.
-#[derive(Clone, Copy, Debug, PartialEq, Eq)]
+#[derive(Debug, Drop)]
 pub struct Done {
     pub status: u8,
     pub cause: Cause,

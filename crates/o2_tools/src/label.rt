@@ -6,7 +6,7 @@ ghost use Rattle.o2_model.specs.Image.{Image};
 ghost use Rattle.o2_model.specs.Superblock.{superblock_bits, superblock, cluster_count};
 ghost use Rattle.o2_model.specs.Label.{label_field, with_label, relabelled};
 ghost use Rattle.o2_tools.specs.Answer.{is_for_later, volume_refusal, label_refusal, refusal_of, IsCauseFor};
-ghost use Rattle.o2_tools.specs.Status.{IsRefusal};
+ghost use Rattle.o2_tools.specs.Status.{IsRefusal, IsDone};
 ghost use Rattle.o2_view.specs.SuperSector.{IsSuperSector};
 
 use crate::cause::Cause;
@@ -29,6 +29,7 @@ pub fn set_label<D: Disk>(
     ensures answer { (I : Image) → (D.state device.old).content ≡ Some I → MatchResult result (λ _. refusal_of label.now I ≡ None) (IsCauseFor (refusal_of label.now I)) }
     ensures length { IfErr result (λ cause. (which : _) (value : ℕ) → cause ≡ Cause.Range which value → label_refusal label.now ≡ Some cause) }
     ensures no_usage { IfErr result (λ cause. (place : ℕ) → cause ≢ Cause.Usage place) }
+    ensures not_done { IfErr result (λ cause. IsDone cause → ⊥) }
     ensures named { (IsErrOf result Cause.NoMemory → ⊥) → (D.state device.new).name ≡ name.now }
     ensures fault { IsErrOf result Cause.DeviceFault → Rose (D.state device.old).faults (D.state device.new).faults }
     ensures done { OnOk result (Told (λ I J. J ≡ relabelled label.now I) (D.state device.old) (D.state device.new)) }
@@ -58,6 +59,7 @@ fn open_volume<D: Disk>(alloc: Global, device: &mut D, name: &str) -> Result<Sup
     ensures refused { IfErr result (λ cause. (I : Image) → (D.state device.old).content ≡ Some I → IsCauseFor (volume_refusal I) cause) }
     ensures no_range { IfErr result (λ cause. (which : _) (value : ℕ) → cause ≢ Cause.Range which value) }
     ensures no_usage { IfErr result (λ cause. (place : ℕ) → cause ≢ Cause.Usage place) }
+    ensures not_done { IfErr result (λ cause. IsDone cause → ⊥) }
     ensures named { (IsErrOf result Cause.NoMemory → ⊥) → (D.state device.new).name ≡ name.now }
     ensures fault { IsErrOf result Cause.DeviceFault → Rose (D.state device.old).faults (D.state device.new).faults }
     ensures reads { ReadsOnly (D.state device.old) (D.state device.new) }

@@ -4,9 +4,12 @@
 mod cause;
 mod command;
 mod label;
+mod obey;
 mod program;
 mod query_word;
+mod report;
 mod superblock;
+mod tell;
 #[cfg(test)]
 mod tests;
 mod words;

@@ -3,7 +3,7 @@ ghost use Rattle.std.specs.Prelude.{◌≡◌, ◌<◌, ◌≤◌, ◌+◌, [], 
 ghost use Rattle.o2_disk.specs.Memory.{disk_state, failing_calls, recorded};
 ghost use Rattle.o2_disk.specs.declared.disk.How.TheVariants.{ReadWrite};
 
-use crate::{Cause, Done, Which, run};
+use crate::run;
 use o2_disk::{Disk, How, MemDisk, MemSink};
 use std::alloc::Global;
 use std::process::Abort;
@@ -13,6 +13,9 @@ use std::test::Fail;
 const SECTORS: u64 = 131_072;
 
 const SUPER_SECTOR: u64 = 16;
+
+// What tunefs prints where all was done.
+const DONE: &str = "tunefs: done\n";
 
 // The first sector of block 2: block bits and cluster bits 12, so many clusters, and the label `old`.
 fn super_sector(clusters: u32) -> [u8; 512] {
@@ -41,23 +44,35 @@ fn device(rt: &impl Abort, alloc: Global, at: u64, sector: &[u8; 512]) -> Result
     Ok(disk.resized(alloc, SECTORS)?)
 }
 
-fn tunefs(alloc: Global, disk: &mut MemDisk, words: &[&str]) -> Result<Done, Fail> {
+// The end of a run: its status, and what the sink took.
+#[derive(Drop)]
+struct Ended {
+    status: u8,
+    text: Vec<u8>,
+}
+
+fn run_words(alloc: Global, disk: &mut MemDisk, words: &[&str]) -> Result<Ended, Fail> {
+    let mut out = MemSink::new(alloc);
+    run_into(alloc, disk, words, &mut out)
+}
+
+fn run_into(
+    alloc: Global,
+    disk: &mut MemDisk,
+    words: &[&str],
+    out: &mut MemSink,
+) -> Result<Ended, Fail> {
     let mut line = Vec::new(alloc);
     for word in words {
         line.push(String::from_str(alloc, word)?)?;
     }
     let mut other = MemDisk::new(alloc, 0)?;
-    let mut out = MemSink::new(alloc);
     let random = [7; 24];
-    Ok(run(
-        alloc,
-        &line,
-        disk,
-        &mut other,
-        &mut out,
-        1_700_000_000,
-        &random,
-    ))
+    let done = run(alloc, &line, disk, &mut other, out, 1_700_000_000, &random);
+    Ok(Ended {
+        status: done.status,
+        text: Vec::from_slice(alloc, out.bytes())?,
+    })
 }
 
 fn read_sector(rt: &impl Abort, disk: &mut MemDisk, at: u64) -> Result<[u8; 512], Fail> {
@@ -83,81 +98,85 @@ fn with_label(sector: &[u8; 512], label: &[u8]) -> [u8; 512] {
     changed
 }
 
-// Each line of words, parted by bars, and the cause by which it is refused.
-const REFUSED: [(&str, Cause); 53] = [
-    ("", Cause::Usage { place: 0 }),
-    ("Tunefs", Cause::Usage { place: 0 }),
-    ("tunefs ", Cause::Usage { place: 0 }),
-    ("o2image", Cause::Usage { place: 0 }),
-    ("o2image|-r|disk|file", Cause::Usage { place: 0 }),
-    ("-L|vol|disk", Cause::Usage { place: 0 }),
-    ("mk|fs", Cause::Usage { place: 0 }),
-    ("|tunefs|-L|vol|disk", Cause::Usage { place: 0 }),
-    ("tunefs", Cause::Usage { place: 1 }),
-    ("tunefs|", Cause::Usage { place: 1 }),
-    ("tunefs|disk", Cause::Usage { place: 1 }),
-    ("tunefs|-l|vol|disk", Cause::Usage { place: 1 }),
-    ("tunefs|-LL|vol|disk", Cause::Usage { place: 1 }),
-    ("tunefs|--label|vol|disk", Cause::Usage { place: 1 }),
-    ("tunefs|vol|-L|disk", Cause::Usage { place: 1 }),
-    ("tunefs|-U|disk", Cause::Usage { place: 1 }),
-    ("tunefs|-L", Cause::Usage { place: 2 }),
-    ("tunefs|-L|vol", Cause::Usage { place: 3 }),
-    ("tunefs|-L|", Cause::Usage { place: 3 }),
-    ("tunefs|-L|-N", Cause::Usage { place: 3 }),
-    ("tunefs|-L|vol|", Cause::Usage { place: 3 }),
-    ("tunefs|-L|vol|-disk", Cause::Usage { place: 3 }),
-    ("tunefs|-L|vol|-", Cause::Usage { place: 3 }),
-    ("tunefs|-L|vol|-|disk", Cause::Usage { place: 3 }),
-    ("tunefs|-L|vol|disk|", Cause::Usage { place: 4 }),
-    ("tunefs|-L|vol|disk|disk", Cause::Usage { place: 4 }),
-    ("tunefs|-L|vol|disk|-N|4", Cause::Usage { place: 4 }),
-    ("mkfs", Cause::Later),
-    ("mkfs|-b|4096|disk", Cause::Later),
-    ("fsck|-n|-y|disk", Cause::Later),
-    ("debugfs", Cause::Usage { place: 1 }),
-    ("debugfs|disk", Cause::Usage { place: 1 }),
-    ("debugfs|-R", Cause::Usage { place: 2 }),
-    ("debugfs|-R|ls|disk", Cause::Usage { place: 2 }),
-    ("debugfs|-R|ls /a/|disk", Cause::Usage { place: 2 }),
-    ("debugfs|-R|ls ///|disk", Cause::Usage { place: 2 }),
-    ("debugfs|-R|ls  /|disk", Cause::Usage { place: 2 }),
-    ("debugfs|-R|cat a|disk", Cause::Usage { place: 2 }),
-    ("debugfs|-R|stat|/|disk", Cause::Usage { place: 2 }),
+// Each line of words, parted by bars, and the line by which it is refused.
+const REFUSED: [(&str, &str); 51] = [
+    ("", "usage: word 0\n"),
+    ("Tunefs", "usage: word 0\n"),
+    ("tunefs ", "usage: word 0\n"),
+    ("o2image", "usage: word 0\n"),
+    ("o2image|-r|disk|file", "usage: word 0\n"),
+    ("-L|vol|disk", "usage: word 0\n"),
+    ("mk|fs", "usage: word 0\n"),
+    ("|tunefs|-L|vol|disk", "usage: word 0\n"),
+    ("tunefs", "usage: word 1\n"),
+    ("tunefs|", "usage: word 1\n"),
+    ("tunefs|disk", "usage: word 1\n"),
+    ("tunefs|-l|vol|disk", "usage: word 1\n"),
+    ("tunefs|-LL|vol|disk", "usage: word 1\n"),
+    ("tunefs|--label|vol|disk", "usage: word 1\n"),
+    ("tunefs|vol|-L|disk", "usage: word 1\n"),
+    ("tunefs|-U|disk", "usage: word 1\n"),
+    ("tunefs|-L", "usage: word 2\n"),
+    ("tunefs|-L|vol", "usage: word 3\n"),
+    ("tunefs|-L|", "usage: word 3\n"),
+    ("tunefs|-L|-N", "usage: word 3\n"),
+    ("tunefs|-L|vol|", "usage: word 3\n"),
+    ("tunefs|-L|vol|-disk", "usage: word 3\n"),
+    ("tunefs|-L|vol|-", "usage: word 3\n"),
+    ("tunefs|-L|vol|-|disk", "usage: word 3\n"),
+    ("tunefs|-L|vol|disk|", "usage: word 4\n"),
+    ("tunefs|-L|vol|disk|disk", "usage: word 4\n"),
+    ("tunefs|-L|vol|disk|-N|4", "usage: word 4\n"),
+    ("mkfs", "mkfs: not built yet\n"),
+    ("mkfs|-b|4096|disk", "mkfs: not built yet\n"),
+    ("fsck|-n|-y|disk", "fsck: not built yet\n"),
+    ("debugfs", "usage: word 1\n"),
+    ("debugfs|disk", "usage: word 1\n"),
+    ("debugfs|-R", "usage: word 2\n"),
+    ("debugfs|-R|ls|disk", "usage: word 2\n"),
+    ("debugfs|-R|ls /a/|disk", "usage: word 2\n"),
+    ("debugfs|-R|ls ///|disk", "usage: word 2\n"),
+    ("debugfs|-R|ls  /|disk", "usage: word 2\n"),
+    ("debugfs|-R|cat a|disk", "usage: word 2\n"),
+    ("debugfs|-R|stat|/|disk", "usage: word 2\n"),
     (
         "debugfs|-R|icheck 1234567890123456789|disk",
-        Cause::Usage { place: 2 },
+        "usage: word 2\n",
     ),
-    ("debugfs|-R|ls /a b", Cause::Usage { place: 3 }),
-    ("debugfs|-R|cat //a|-d", Cause::Usage { place: 3 }),
-    ("debugfs|-R|stats|disk|more", Cause::Usage { place: 4 }),
-    ("debugfs|-R|stats|disk", Cause::Later),
-    ("debugfs|-R|refcount /a b/c|disk", Cause::Later),
-    ("debugfs|-R|icheck 123456789012345678|disk", Cause::Later),
-    ("debugfs|-R|ls /|disk", Cause::Later),
-    ("debugfs|-R|cat //a b/c|disk", Cause::Later),
-    ("sample|1000|disk", Cause::Later),
-    ("tunefs|-N", Cause::Later),
-    ("tunefs|-N|4|disk", Cause::Later),
-    ("tunefs|-J|size=8M|disk", Cause::Later),
-    ("tunefs|-S|disk", Cause::Later),
+    ("debugfs|-R|ls /a b", "usage: word 3\n"),
+    ("debugfs|-R|cat //a|-d", "usage: word 3\n"),
+    ("debugfs|-R|stats|disk|more", "usage: word 4\n"),
+    ("debugfs|-R|stats|disk", "debugfs: not built yet\n"),
+    (
+        "debugfs|-R|refcount /a b/c|disk",
+        "debugfs: not built yet\n",
+    ),
+    (
+        "debugfs|-R|icheck 123456789012345678|disk",
+        "debugfs: not built yet\n",
+    ),
+    ("sample|1000|disk", "sample: not built yet\n"),
+    ("tunefs|-N", "tunefs: not built yet\n"),
+    ("tunefs|-N|4|disk", "tunefs: not built yet\n"),
+    ("tunefs|-J|size=8M|disk", "tunefs: not built yet\n"),
+    ("tunefs|-S|disk", "tunefs: not built yet\n"),
 ];
 
 #[test]
 fn refuses_words(rt: HostRuntime) -> Result<(), Fail> {
     let alloc = rt.alloc();
     let mut disk = device(&rt, alloc, SUPER_SECTOR, &super_sector(16_384))?;
-    let done = tunefs(alloc, &mut disk, &[])?;
-    assert_eq!(rt; (done.status, done.cause), (16, Cause::Usage { place: 0 }));
-    for (line, cause) in REFUSED {
+    let done = run_words(alloc, &mut disk, &[])?;
+    assert_eq!(rt;
+        (done.status, done.text.as_slice()),
+        (16, "usage: word 0\n".as_bytes())
+    );
+    for (line, text) in REFUSED {
         let words: Vec<&str> = line.split('|').collect(alloc)?;
-        let done = tunefs(alloc, &mut disk, &words)?;
-        assert_eq!(rt; done.cause, cause, "{line}");
-        assert_eq!(rt;
-            done.status,
-            if cause == Cause::Later { 1 } else { 16 },
-            "{line}"
-        );
+        let done = run_words(alloc, &mut disk, &words)?;
+        assert_eq!(rt; done.text.as_slice(), text.as_bytes(), "{line}");
+        let is_usage = text.starts_with("usage");
+        assert_eq!(rt; done.status, if is_usage { 16 } else { 1 }, "{line}");
     }
     assert_eq!(rt; disk.calls(), 0);
     Ok(())
@@ -167,27 +186,23 @@ fn refuses_words(rt: HostRuntime) -> Result<(), Fail> {
 fn labels_a_volume(rt: HostRuntime) -> Result<(), Fail> {
     let alloc = rt.alloc();
     let long = "a".repeat(alloc, 65)?;
-    // the clusters, the label, and the status and the cause that they give
-    for (clusters, label, status, cause) in [
-        (16_384, "vol", 0, Cause::Fine),
-        (16_384, "", 0, Cause::Fine),
-        (262_144, "vol", 0, Cause::Fine),
-        (16_384, &long[..64], 0, Cause::Fine),
-        (262_145, "vol", 1, Cause::Later),
-        (
-            16_384,
-            long.as_str(),
-            1,
-            Cause::Range {
-                which: Which::Label,
-                value: 65,
-            },
-        ),
+    // the clusters, the label, and the status and the line that they give
+    for (clusters, label, status, line) in [
+        (16_384, "vol", 0, DONE),
+        (16_384, "", 0, DONE),
+        (262_144, "vol", 0, DONE),
+        (16_384, &long[..64], 0, DONE),
+        (262_145, "vol", 1, "tunefs: not built yet\n"),
+        (16_384, long.as_str(), 1, "tunefs: out of range: label 65\n"),
     ] {
         let before = super_sector(clusters);
         let mut disk = device(&rt, alloc, SUPER_SECTOR, &before)?;
-        let done = tunefs(alloc, &mut disk, &["tunefs", "-L", label, "disk"])?;
-        assert_eq!(rt; (done.status, done.cause), (status, cause), "{label}");
+        let done = run_words(alloc, &mut disk, &["tunefs", "-L", label, "disk"])?;
+        assert_eq!(rt;
+            (done.status, done.text.as_slice()),
+            (status, line.as_bytes()),
+            "{label}"
+        );
         let mut field = [0; 64];
         field[..label.len().min(64)].copy_from_slice(&label.as_bytes()[..label.len().min(64)]);
         let after = if status == 0 {
@@ -204,12 +219,18 @@ fn labels_a_volume(rt: HostRuntime) -> Result<(), Fail> {
 fn finds_no_volume(rt: HostRuntime) -> Result<(), Fail> {
     let alloc = rt.alloc();
     let mut disk = MemDisk::new(alloc, SECTORS)?;
-    let done = tunefs(alloc, &mut disk, &["tunefs", "-L", "vol", "disk"])?;
-    assert_eq!(rt; (done.status, done.cause), (1, Cause::NotOcfs2));
+    let done = run_words(alloc, &mut disk, &["tunefs", "-L", "vol", "disk"])?;
+    assert_eq!(rt;
+        (done.status, done.text.as_slice()),
+        (1, "tunefs: not an OCFS2 volume\n".as_bytes())
+    );
     // nor where the device ends within block 2
     let mut short = device(&rt, alloc, SUPER_SECTOR, &super_sector(16_384))?.resized(alloc, 23)?;
-    let done = tunefs(alloc, &mut short, &["tunefs", "-L", "vol", "disk"])?;
-    assert_eq!(rt; (done.status, done.cause), (1, Cause::NotOcfs2));
+    let done = run_words(alloc, &mut short, &["tunefs", "-L", "vol", "disk"])?;
+    assert_eq!(rt;
+        (done.status, done.text.as_slice()),
+        (1, "tunefs: not an OCFS2 volume\n".as_bytes())
+    );
     Ok(())
 }
 
@@ -219,8 +240,8 @@ fn stopped_at_any_call(rt: HostRuntime) -> Result<(), Fail> {
     let before = super_sector(16_384);
     let after = with_label(&before, b"vol");
     let mut disk = device(&rt, alloc, SUPER_SECTOR, &before)?;
-    let done = tunefs(alloc, &mut disk, &["tunefs", "-L", "vol", "disk"])?;
-    assert_eq!(rt; done.cause, Cause::Fine);
+    let done = run_words(alloc, &mut disk, &["tunefs", "-L", "vol", "disk"])?;
+    assert_eq!(rt; done.status, 0);
     for call in 0..disk.calls() {
         for choice in 0..8 {
             let mut stopped = disk.stopped_at(alloc, call, choice)?;
@@ -240,10 +261,10 @@ fn one_call_fails(rt: HostRuntime) -> Result<(), Fail> {
     for call in 0..6 {
         let mut disk = device(&rt, alloc, SUPER_SECTOR, &before)?;
         disk.fail_at(call);
-        let done = tunefs(alloc, &mut disk, &["tunefs", "-L", "vol", "disk"])?;
+        let done = run_words(alloc, &mut disk, &["tunefs", "-L", "vol", "disk"])?;
         assert_eq!(rt;
-            (done.status, done.cause),
-            (8, Cause::DeviceFault),
+            (done.status, done.text.as_slice()),
+            (8, "tunefs: device fault\n".as_bytes()),
             "{call}"
         );
         assert_eq!(rt; disk.calls(), call + 1);
@@ -256,8 +277,11 @@ fn one_call_fails(rt: HostRuntime) -> Result<(), Fail> {
     }
     let mut disk = device(&rt, alloc, SUPER_SECTOR, &before)?;
     disk.fail_attach();
-    let done = tunefs(alloc, &mut disk, &["tunefs", "-L", "vol", "disk"])?;
-    assert_eq!(rt; (done.status, done.cause), (8, Cause::DeviceFault));
+    let done = run_words(alloc, &mut disk, &["tunefs", "-L", "vol", "disk"])?;
+    assert_eq!(rt;
+        (done.status, done.text.as_slice()),
+        (8, "tunefs: device fault\n".as_bytes())
+    );
     Ok(())
 }
 
@@ -266,16 +290,16 @@ fn bounded_on_a_gibibyte(rt: HostRuntime) -> Result<(), Fail> {
     let alloc = rt.alloc();
     let made = device(&rt, alloc, SUPER_SECTOR, &super_sector(262_144))?;
     let mut disk = made.resized(alloc, 1 << 21)?;
-    let done = tunefs(alloc, &mut disk, &["tunefs", "-L", "vol", "disk"])?;
-    assert_eq!(rt; done.cause, Cause::Fine);
+    let done = run_words(alloc, &mut disk, &["tunefs", "-L", "vol", "disk"])?;
+    assert_eq!(rt; done.status, 0);
     // a read for each block size, one write and one sync
     assert_eq!(rt; disk.calls(), 6);
     for call in 0..disk.calls() {
         assert_eq!(rt; disk.was_read(call), call < 4);
     }
     // the label is there: nothing is written
-    let done = tunefs(alloc, &mut disk, &["tunefs", "-L", "vol", "disk"])?;
-    assert_eq!(rt; done.cause, Cause::Fine);
+    let done = run_words(alloc, &mut disk, &["tunefs", "-L", "vol", "disk"])?;
+    assert_eq!(rt; done.status, 0);
     assert_eq!(rt; disk.calls(), 10);
     Ok(())
 }
