@@ -73,13 +73,14 @@ fn directory(inode: u64, entries: u64) -> [u8; 4096] {
     block
 }
 
-fn file() -> [u8; 4096] {
-    let mut block = [0; 4096];
+fn put_file(block: &mut [u8])
+    requires { 4096 ≤ length block.old }
+{
     let fields = Dinode {
         clusters: 1,
         ..dinode(8, 0o100644, 5000)
     };
-    write_dinode(&mut block, &fields);
+    write_dinode(block, &fields);
     let header = ExtentListHeader {
         tree_depth: 0,
         count: 243,
@@ -92,7 +93,6 @@ fn file() -> [u8; 4096] {
         blkno: 10,
     };
     write_extent_rec(&mut block[0xd0..], &record);
-    block
 }
 
 fn put_tree<D: Disk>(disk: &mut D) -> Result<(), Fail>
@@ -103,7 +103,9 @@ fn put_tree<D: Disk>(disk: &mut D) -> Result<(), Fail>
     disk.write(16, &super_sector())?;
     disk.write(40, &directory(5, 3))?;
     disk.write(48, &directory(6, 2))?;
-    disk.write(64, &file())?;
+    let mut block = [0; 4096];
+    put_file(&mut block);
+    disk.write(64, &block)?;
     disk.write(80, &[0x61; 4096])?;
     Ok(())
 }
