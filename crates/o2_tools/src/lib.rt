@@ -12,6 +12,8 @@ mod superblock;
 mod tell;
 #[cfg(test)]
 mod tests;
+#[cfg(test)]
+mod tree_tests;
 mod words;
 
 pub use cause::{Cause, Done};

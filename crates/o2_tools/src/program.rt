@@ -1,6 +1,6 @@
 // The program's one call.
 ghost use Rattle.std.specs.Prelude.{◌≡◌, ◌≢◌, ◌⊎◌, ℕ, Some};
-ghost use Rattle.o2_disk.specs.Device.{ReadsOnly, Rose, IsSettled, LeavesOnly, Told};
+ghost use Rattle.o2_disk.specs.Device.{ReadsOnly, Rose, IsWritable, IsSettled, LeavesOnly, Told};
 ghost use Rattle.o2_model.specs.Image.{Image};
 ghost use Rattle.o2_model.specs.Label.{relabelled};
 ghost use Rattle.o2_debug.specs.Taken.{Takes, TakesSome};
@@ -48,6 +48,7 @@ pub fn run<D: Disk, E: Disk, K: Sink>(
     // A query of debugfs is answered by what stands first, and Fine comes only with its text. A debugfs run writes nothing.
     ensures told { (query : _) → AsksFor query (texts words.now) → (I : Image) → (D.state device.old).content ≡ Some I → ComesFor query I (K.state out.old) (K.state out.new) result.cause }
     ensures reads { IsDebugfs (texts words.now) → ReadsOnly (D.state device.old) (D.state device.new) }
+    ensures not_writable { AsksQuery (texts words.now) → result.cause ≢ Cause.NoMemory → IsWritable (D.state device.new).attached → ⊥ }
 
     // The device is attached under the name that the command line gives. Other words leave it alone.
     ensures named { (IsTunefs (texts words.now) ⊎ AsksQuery (texts words.now)) → result.cause ≢ Cause.NoMemory → (D.state device.new).name ≡ device_of (texts words.now) }

@@ -1,6 +1,6 @@
 // The answer to a query, by the name of its device.
 ghost use Rattle.std.specs.Prelude.{◌≡◌, ◌⊎◌, ◌≤◌, ℕ, Some, None, OnOk, IfOk, IfErr, IsErrOf, MatchResult};
-ghost use Rattle.o2_disk.specs.Device.{ReadsOnly, Rose};
+ghost use Rattle.o2_disk.specs.Device.{ReadsOnly, Rose, IsWritable};
 ghost use Rattle.o2_model.specs.Image.{Image};
 ghost use Rattle.o2_model.specs.Features.{unsupported_feature};
 ghost use Rattle.o2_model.specs.Volume.{Volume, opened};
@@ -43,6 +43,7 @@ pub fn tell<D: Disk, K: Sink>(
     ensures silent { (I : Image) → (D.state device.old).content ≡ Some I → IfErr result (λ cause. IsRefusal cause → out.new ≡ out.old) }
     ensures some { (I : Image) → (D.state device.old).content ≡ Some I → (v : Volume) → opened I ≡ Some v → TakesSomeAt query v (K.state out.old) (K.state out.new) }
     ensures reads { ReadsOnly (D.state device.old) (D.state device.new) }
+    ensures not_writable { IsWritable (D.state device.new).attached → ⊥ }
     ensures named { (IsErrOf result Cause.NoMemory → ⊥) → (D.state device.new).name ≡ name.now }
     ensures fault { IsErrOf result Cause.DeviceFault → Rose (D.state device.old).faults (D.state device.new).faults }
     ensures output { IsErrOf result Cause.OutputFault → Rose (K.state out.old).faults (K.state out.new).faults }
@@ -65,6 +66,7 @@ fn open_for_reading<D: Disk>(alloc: Global, device: &mut D, name: &str) -> Resul
     ensures named { (IsErrOf result Cause.NoMemory → ⊥) → (D.state device.new).name ≡ name.now }
     ensures fault { IsErrOf result Cause.DeviceFault → Rose (D.state device.old).faults (D.state device.new).faults }
     ensures reads { ReadsOnly (D.state device.old) (D.state device.new) }
+    ensures not_writable { IsWritable (D.state device.new).attached → ⊥ }
     ensures faults { OnOk result ((D.state device.new).faults ≡ (D.state device.old).faults) }
 {
     device.attach(alloc, name, How::ReadOnly)?;
@@ -103,6 +105,7 @@ fn ask<D: Disk, K: Sink>(
     ensures not_found { IsErrOf result DebugFault.Absent → out.new ≡ out.old }
     ensures reads { ReadsOnly (D.state device.old) (D.state device.new) }
     ensures name { (D.state device.new).name ≡ (D.state device.old).name }
+    ensures attached { (D.state device.new).attached ≡ (D.state device.old).attached }
     ensures fault { IsErrOf result DebugFault.DeviceFault → Rose (D.state device.old).faults (D.state device.new).faults }
     ensures output { IsErrOf result DebugFault.OutputFault → Rose (K.state out.old).faults (K.state out.new).faults }
     ensures quiet { (IsErrOf result DebugFault.OutputFault → ⊥) → (K.state out.new).faults ≡ (K.state out.old).faults }
