@@ -1,5 +1,5 @@
 -- What the sink took, by the cause that ended the run.
-use Rattle.std.proofs.Common.{◌≡◌, ℕ, ◌≤◌, List, [], Some, refl, sym, subst}
+use Rattle.std.proofs.Common.{◌≡◌, ℕ, List, [], refl, sym, subst}
 use Rattle.o2_disk.specs.Output.{SinkState}
 use Rattle.o2_disk.specs.Device.{Rose}
 use Rattle.o2_model.specs.Image.{Image}

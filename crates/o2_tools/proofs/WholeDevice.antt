@@ -1,5 +1,5 @@
 -- How many whole blocks a device has.
-use Rattle.std.proofs.Common.{◌≡◌, ℕ, ◌-◌, ◌*◌, ◌/◌, ◌≤◌, ◌<◌, ◌^◌, zero, length, sym, ◌∙◌, ap, arith}
+use Rattle.std.proofs.Common.{◌≡◌, ℕ, ◌-◌, ◌*◌, ◌/◌, ◌≤◌, ◌^◌, length, sym, ◌∙◌, ap, arith}
 use Rattle.std.proofs.Math.Nat.{mul-div-mul_left}
 use Rattle.o2_disk.specs.Image.{Image}
 use Rattle.o2_model.proofs.SuperSector.{size-is}

@@ -1,5 +1,5 @@
 -- When each answer to a query comes.
-use Rattle.std.specs.Prelude.{◌≡◌, ◌⊎◌, ℕ, Option, Some, None}
+use Rattle.std.specs.Prelude.{◌≡◌, ◌⊎◌, Some, None}
 use Rattle.o2_disk.specs.Output.{SinkState}
 use Rattle.o2_model.specs.Image.{Image}
 use Rattle.o2_model.specs.Superblock.{superblock_bits}

@@ -1,5 +1,5 @@
 -- The cause's line behind what was said.
-use Rattle.std.proofs.Common.{◌∙◌, List, ℕ, ap, sym, subst}
+use Rattle.std.proofs.Common.{◌∙◌, ap, sym, subst}
 use Rattle.o2_debug.specs.Taken.{Takes, TakesSome}
 use Rattle.o2_tools.specs.declared.cause.Cause.{Cause}
 use Rattle.o2_tools.specs.CauseLines.{cause_line, reply_text}

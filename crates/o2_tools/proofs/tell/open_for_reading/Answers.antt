@@ -2,7 +2,6 @@
 use Rattle.std.proofs.Common.{◌≡◌, ◌∙◌, refl, subst, Option, Some, None}
 use Rattle.std.specs.Prelude.{MatchOption, IfSome}
 use Rattle.o2_model.specs.Superblock.{superblock_bits}
-use Rattle.o2_model.specs.Image.{Image}
 use Rattle.o2_view.specs.SuperSector.{IsSuperSector, TellsSuper}
 use Rattle.o2_view.specs.declared.superblock.SuperSector.{SuperSector}
 use Rattle.o2_tools.proofs.Opened.{feature_read, opened_read}

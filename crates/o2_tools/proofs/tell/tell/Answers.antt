@@ -1,5 +1,5 @@
 -- The volume was opened, and its query answered.
-use Rattle.std.proofs.Common.{◌≡◌, ◌∙◌, sym, subst, ap, Err}
+use Rattle.std.proofs.Common.{◌∙◌, sym, subst, ap, Err}
 use Rattle.o2_extent.specs.Seen.{volume_seen}
 use Rattle.o2_debug.specs.declared.fault.DebugFault.{DebugFault}
 use Rattle.o2_tools.specs.declared.cause.Cause.{Cause}
