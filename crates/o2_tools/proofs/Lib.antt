@@ -2,6 +2,7 @@ pub mod AskedLines
 pub mod DebugLines
 pub mod Ends
 pub mod Lines
+pub mod OneQuery
 pub mod Opened
 pub mod QueryWordLemmas
 pub mod Refusals

@@ -1,5 +1,5 @@
 -- When each answer to a query comes.
-use Rattle.std.specs.Prelude.{◌≡◌, ◌⊎◌, Some, None}
+use Rattle.std.specs.Prelude.{◌≡◌, ◌⊎◌, ℕ, List, Some, None}
 use Rattle.o2_disk.specs.Output.{SinkState}
 use Rattle.o2_model.specs.Image.{Image}
 use Rattle.o2_model.specs.Superblock.{superblock_bits}
@@ -8,6 +8,7 @@ use Rattle.o2_model.specs.Volume.{Volume, opened}
 use Rattle.o2_check.specs.Skeleton.{HasSkeleton, FailsFirst}
 use Rattle.o2_debug.specs.Answers.{path_of}
 use Rattle.o2_debug.specs.Commands.{AnswersAt, TakesSomeAt, IsAbsent, IsOfWrongKind, FailsOn}
+use Rattle.o2_debug.specs.Taken.{TakesSome}
 use Rattle.o2_debug.specs.declared.fault.DebugFault.{DebugFault}
 use Rattle.o2_debug.specs.declared.fault.DebugFault.TheVariants as debug
 use Rattle.o2_debug.specs.declared.query.Query.{Query}
@@ -35,6 +36,12 @@ ComesFor query I old new NoMemory = Unit {0}
 ComesFor query I old new (Usage place) = ⊥
 ComesFor query I old new Later = ⊥
 ComesFor query I old new (Range which value) = ⊥
+
+-- The sink took first bytes of the query's text, maybe none or all, and then first bytes of the line.
+pub record TakesTextAndLine (query : Query) (v : Volume) (line : List ℕ) (old new : SinkState) : Type 0 where
+  pub between : SinkState
+  pub text : TakesSomeAt query v old between
+  pub rest : TakesSome between new line
 
 -- why a device is not opened for a query, where it has this content
 abbrev pub RefusesVolume : Image → Cause → Type 0

@@ -3,6 +3,8 @@ ghost use Rattle.std.specs.Prelude.{◌≡◌, ◌≢◌, ◌⊎◌, ℕ, Some};
 ghost use Rattle.o2_disk.specs.Device.{ReadsOnly, Rose, IsWritable, IsSettled, LeavesOnly, Told};
 ghost use Rattle.o2_model.specs.Image.{Image};
 ghost use Rattle.o2_model.specs.Label.{relabelled};
+ghost use Rattle.o2_model.specs.Volume.{Volume, opened};
+ghost use Rattle.o2_debug.specs.Commands.{TakesSomeAt};
 ghost use Rattle.o2_debug.specs.Taken.{Takes, TakesSome};
 ghost use Rattle.o2_tools.specs.Answer.{label_refusal, refusal_of, IsAnswer};
 ghost use Rattle.o2_tools.specs.CauseLines.{done_text};
@@ -36,6 +38,7 @@ pub fn obey<D: Disk, K: Sink>(alloc: Global, words: &[String], device: &mut D, o
 
     // a query
     ensures told { (query : _) → AsksFor query (texts words.now) → (I : Image) → (D.state device.old).content ≡ Some I → ComesFor query I (K.state out.old) (K.state out.new) result }
+    ensures begun { (query : _) → AsksFor query (texts words.now) → (I : Image) → (D.state device.old).content ≡ Some I → (v : Volume) → opened I ≡ Some v → TakesSomeAt query v (K.state out.old) (K.state out.new) }
     ensures reads { IsDebugfs (texts words.now) → ReadsOnly (D.state device.old) (D.state device.new) }
     ensures not_writable { AsksQuery (texts words.now) → result ≢ Cause.NoMemory → IsWritable (D.state device.new).attached → ⊥ }
     ensures silent { AsksQuery (texts words.now) → (I : Image) → (D.state device.old).content ≡ Some I → IsRefusal result → out.new ≡ out.old }

@@ -3,12 +3,13 @@ ghost use Rattle.std.specs.Prelude.{◌≡◌, ◌≢◌, ◌⊎◌, ℕ, Some};
 ghost use Rattle.o2_disk.specs.Device.{ReadsOnly, Rose, IsWritable, IsSettled, LeavesOnly, Told};
 ghost use Rattle.o2_model.specs.Image.{Image};
 ghost use Rattle.o2_model.specs.Label.{relabelled};
+ghost use Rattle.o2_model.specs.Volume.{Volume, opened};
 ghost use Rattle.o2_debug.specs.Taken.{Takes, TakesSome};
 ghost use Rattle.o2_tools.specs.Answer.{label_refusal, refusal_of, IsAnswer};
 ghost use Rattle.o2_tools.specs.CauseLines.{cause_line, reply_text};
 ghost use Rattle.o2_tools.specs.CommandLine.{texts, IsTunefs, IsDebugfs, IsLine, IsLaterLine, RefusesWords, tool_of, label_of, device_of};
 ghost use Rattle.o2_tools.specs.Commands.{AsksFor, AsksQuery};
-ghost use Rattle.o2_tools.specs.Replies.{ComesFor};
+ghost use Rattle.o2_tools.specs.Replies.{ComesFor, TakesTextAndLine};
 ghost use Rattle.o2_tools.specs.Status.{status_of, IsRefusal, IsDone};
 
 use crate::obey::obey;
@@ -67,11 +68,13 @@ pub fn run<D: Disk, E: Disk, K: Sink>(
     ensures settled { IsTunefs (texts words.now) → IsDone result.cause → (I : Image) → IsSettled (D.state device.old) I → IsSettled (D.state device.new) (relabelled (label_of (texts words.now)) I) }
 
     // Where no query is asked the sink takes that tunefs is done, or the cause's line, and its first bytes where it fails.
-    // A query that is refused has the cause's line alone. A fault of the sink stands in place of Fine.
+    // A query has first bytes of its text before the line, and one that is refused the line alone. A fault of the sink stands in place of Fine.
     ensures output { (AsksQuery (texts words.now) → ⊥) → (Rose (K.state out.old).faults (K.state out.new).faults → ⊥) → Takes (K.state out.old) (K.state out.new) (reply_text (tool_of (texts words.now)) result.cause) }
     ensures front { (AsksQuery (texts words.now) → ⊥) → TakesSome (K.state out.old) (K.state out.new) (reply_text (tool_of (texts words.now)) result.cause) }
     ensures alone_line { AsksQuery (texts words.now) → (I : Image) → (D.state device.old).content ≡ Some I → IsRefusal result.cause → (Rose (K.state out.old).faults (K.state out.new).faults → ⊥)
         → Takes (K.state out.old) (K.state out.new) (cause_line (tool_of (texts words.now)) result.cause) }
+    ensures begun { (query : _) → AsksFor query (texts words.now) → (I : Image) → (D.state device.old).content ≡ Some I → (v : Volume) → opened I ≡ Some v
+        → TakesTextAndLine query v (cause_line (tool_of (texts words.now)) result.cause) (K.state out.old) (K.state out.new) }
     ensures output_fault { result.cause ≡ Cause.OutputFault → Rose (K.state out.old).faults (K.state out.new).faults }
 
     ensures other { other.new ≡ other.old }

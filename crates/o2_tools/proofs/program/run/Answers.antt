@@ -4,7 +4,7 @@ use Rattle.o2_debug.specs.Taken.{Takes, TakesSome}
 use Rattle.o2_tools.specs.declared.cause.Cause.{Cause}
 use Rattle.o2_tools.specs.CauseLines.{cause_line, reply_text}
 use Rattle.o2_tools.specs.CommandLine.{texts, tool_of}
-use Rattle.o2_tools.specs.Replies.{ComesFor}
+use Rattle.o2_tools.specs.Replies.{ComesFor, TakesTextAndLine}
 use Rattle.o2_tools.specs.Status.{IsRefusal}
 use Rattle.o2_tools.proofs.Ends.{line_alone, output_of, front_of, comes_after, nothing_put}
 use Rattle.o2_tools.proofs.program.run.Goals as goal
@@ -48,3 +48,17 @@ returns-in-Err-clause-front g c other =
     let state = g.K.Sink.state in
     subst (λ (cause : Cause). TakesSome (state c.args.out.now) (state c.report.new.out) (reply_text (tool_of (texts c.args.words.now)) cause)) (sym c.by-in-Err.ensures.cause)
     (nothing_put _ _ (ap state (c.in-Err.ensures.nothing ∙ c.obey-cause.ensures.unsaid other c.in-Err.ensures.memory)))
+
+pub returns-in-Ok-clause-begun : goal.returns-in-Ok-clause-begun
+returns-in-Ok-clause-begun g c query asks I told v opens =
+    let state = g.K.Sink.state in
+    let tool = tool_of (texts c.args.words.now) in
+    subst (λ (cause : Cause). TakesTextAndLine query v (cause_line tool cause) (state c.args.out.now) (state c.report.new.out)) (sym c.by.ensures.cause)
+    (record { between = state c.obey-cause.new.out; text = c.obey-cause.ensures.begun query asks I told v opens; rest = c.in-Ok.ensures.some })
+
+pub returns-in-Err-clause-begun : goal.returns-in-Err-clause-begun
+returns-in-Err-clause-begun g c query asks I told v opens =
+    let state = g.K.Sink.state in
+    let tool = tool_of (texts c.args.words.now) in
+    subst (λ (cause : Cause). TakesTextAndLine query v (cause_line tool cause) (state c.args.out.now) (state c.report.new.out)) (sym c.by-in-Err.ensures.cause)
+    (record { between = state c.obey-cause.new.out; text = c.obey-cause.ensures.begun query asks I told v opens; rest = nothing_put _ _ (ap state c.in-Err.ensures.nothing) })
