@@ -1,1 +1,3 @@
 pub mod SmallEntries
+pub mod SmallVolumes
+pub mod SmallFiles

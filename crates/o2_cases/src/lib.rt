@@ -2,5 +2,15 @@
 #![tactic(auto)]
 
 mod entry_cases;
+mod extent_cases;
+mod super_cases;
 
 pub use entry_cases::{entries_on_cases, has_entry_on_cases};
+pub use extent_cases::{
+    bytes_on_cases, headers_on_cases, leaf_records_on_cases, leaves_on_cases,
+    overlapping_records_on_cases,
+};
+pub use super_cases::{
+    cluster_ranges_on_cases, directories_on_cases, first_group_on_cases, group_places_on_cases,
+    sizes_on_cases,
+};
