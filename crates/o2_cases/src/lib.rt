@@ -3,6 +3,9 @@
 
 mod entry_cases;
 mod extent_cases;
+mod group_cases;
+mod log_cases;
+mod slot_cases;
 mod super_cases;
 
 pub use entry_cases::{entries_on_cases, has_entry_on_cases};
@@ -10,6 +13,11 @@ pub use extent_cases::{
     bytes_on_cases, headers_on_cases, leaf_records_on_cases, leaves_on_cases,
     overlapping_records_on_cases,
 };
+pub use group_cases::{
+    bitmap_groups_on_cases, block_groups_on_cases, chains_on_cases, free_bits_on_cases,
+};
+pub use log_cases::{bounds_on_cases, tags_on_cases, transactions_on_cases, writes_on_cases};
+pub use slot_cases::{truncate_logs_on_cases, truncations_on_cases, windows_on_cases};
 pub use super_cases::{
     cluster_ranges_on_cases, directories_on_cases, first_group_on_cases, group_places_on_cases,
     sizes_on_cases,
