@@ -5,3 +5,4 @@ pub mod SmallFiles
 pub mod SmallGroups
 pub mod SmallLogs
 pub mod SmallSlots
+pub mod TinyVolume

@@ -7,6 +7,7 @@ mod group_cases;
 mod log_cases;
 mod slot_cases;
 mod super_cases;
+mod volume_cases;
 
 pub use entry_cases::{entries_on_cases, has_entry_on_cases};
 pub use extent_cases::{
@@ -22,3 +23,4 @@ pub use super_cases::{
     cluster_ranges_on_cases, directories_on_cases, first_group_on_cases, group_places_on_cases,
     sizes_on_cases,
 };
+pub use volume_cases::{contents_of_volume, groups_of_volume};
