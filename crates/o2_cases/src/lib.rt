@@ -23,4 +23,6 @@ pub use super_cases::{
     cluster_ranges_on_cases, directories_on_cases, first_group_on_cases, group_places_on_cases,
     sizes_on_cases,
 };
-pub use volume_cases::{contents_of_volume, groups_of_volume};
+pub use volume_cases::{
+    claims_of_volume, contents_of_volume, groups_of_volume, inodes_of_volume, tree_of_volume,
+};
