@@ -6,3 +6,4 @@ pub mod SmallGroups
 pub mod SmallLogs
 pub mod SmallSlots
 pub mod TinyVolume
+pub mod ChangedVolumes

@@ -5,6 +5,7 @@ use Rattle.std.specs.Prelude.{ℕ, ◌-◌, ◌==◌, List, [], ◌∷◌, ◌++
 use Rattle.byteorder.specs.Endian.{little_bytes}
 use Rattle.o2_ondisk.specs.Fields.{put_at}
 use Rattle.o2_ondisk.specs.Signatures.{inode_signature}
+use Rattle.o2_ondisk.specs.declared.group_desc.GroupDesc.{GroupDesc}
 use Rattle.o2_model.specs.declared.allocator.Allocator.{Allocator}
 use Rattle.o2_model.specs.declared.allocator.BitUse.TheVariants.{Clusters, Inodes}
 use Rattle.o2_model.specs.declared.allocator.Group.{Group}
@@ -51,10 +52,17 @@ hello_bytes block =
 abbrev pub tiny_geo : Geo
 tiny_geo = record small_geo { clusters = 8; root = 18; sysdir = 17 }
 
+-- the descriptors of its two groups
+abbrev pub tiny_bitmap_desc : GroupDesc
+tiny_bitmap_desc = record bitmap_desc { bits = 8; free_bits_count = 3; parent_dinode = 19 }
+
+abbrev pub tiny_inode_desc : GroupDesc
+tiny_inode_desc = record (inode_desc 16 0) { free_bits_count = 9; parent_dinode = 20 }
+
 abbrev pub tiny_at : ℕ → List ℕ
 tiny_at b =
-    if b == 8 then desc_bytes (record bitmap_desc { bits = 8; free_bits_count = 3; parent_dinode = 19 }) 0x2f
-    else if b == 16 then desc_bytes (record (inode_desc 16 0) { free_bits_count = 9; parent_dinode = 20 }) 0x7f
+    if b == 8 then desc_bytes tiny_bitmap_desc 0x2f
+    else if b == 16 then desc_bytes tiny_inode_desc 0x7f
     else if b == 17 then directory_bytes 17 (dots 17 17 ++ named_bytes 19 28 1 (codes "global_bitmap") ++ named_bytes 20 32 1 (codes "global_inode_alloc"))
     else if b == 18 then directory_bytes 18 (dots 18 18 ++ named_bytes 22 16 2 (codes "d") ++ named_bytes 21 16 1 (codes "f"))
     else if b == 19 then allocator_bytes 19 3584 1 8

@@ -1,6 +1,7 @@
 //! Cases of the definitions over whole volumes, computed by the checker.
 #![tactic(auto)]
 
+mod check_cases;
 mod entry_cases;
 mod extent_cases;
 mod group_cases;
@@ -9,6 +10,9 @@ mod slot_cases;
 mod super_cases;
 mod volume_cases;
 
+pub use check_cases::{
+    bit_checks_on_cases, chain_checks_on_cases, connection_on_cases, entry_checks_on_cases,
+};
 pub use entry_cases::{entries_on_cases, has_entry_on_cases};
 pub use extent_cases::{
     bytes_on_cases, headers_on_cases, leaf_records_on_cases, leaves_on_cases,
