@@ -1,5 +1,5 @@
 -- The tiny volume with one block changed, so that a check fails.
-use Rattle.std.specs.Prelude.{ℕ, ◌==◌, List, [], ◌++◌, codes, if◌then◌else◌}
+use Rattle.std.specs.Prelude.{ℕ, ◌==◌, List, ◌++◌, codes, if◌then◌else◌}
 use Rattle.o2_model.specs.Volume.{Volume, over}
 use Rattle.o2_cases.specs.SmallGroups.{desc_bytes}
 use Rattle.o2_cases.specs.TinyVolume.{tiny, tiny_at, tiny_bitmap_desc, tiny_inode_desc, allocator_bytes, directory_bytes, dots, named_bytes}

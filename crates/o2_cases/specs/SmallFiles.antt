@@ -1,6 +1,5 @@
 -- A small volume with one file.
 use Rattle.std.specs.Prelude.{ℕ, ◌+◌, ◌*◌, ◌^◌, ◌==◌, List, [], ◌∷◌, length, flat_map, if◌then◌else◌}
-use Rattle.byteorder.specs.Endian.{little_bytes}
 use Rattle.o2_ondisk.specs.Fields.{paste_at, put_at, put_all}
 use Rattle.o2_ondisk.specs.ExtentRecs.{extent_rec_fields, extent_rec_numbers}
 use Rattle.o2_ondisk.specs.declared.extent_rec.ExtentRec.{ExtentRec}

@@ -1,5 +1,5 @@
 -- Small volumes with groups of allocators.
-use Rattle.std.specs.Prelude.{ℕ, ◌==◌, List, [], ◌∷◌, ◌++◌, if◌then◌else◌}
+use Rattle.std.specs.Prelude.{ℕ, ◌==◌, List, [], if◌then◌else◌}
 use Rattle.o2_ondisk.specs.Fields.{put_at, put_all}
 use Rattle.o2_ondisk.specs.GroupDescs.{group_desc_fields, group_desc_numbers}
 use Rattle.o2_ondisk.specs.Signatures.{group_signature}
