@@ -7,3 +7,4 @@ pub mod SmallLogs
 pub mod SmallSlots
 pub mod TinyVolume
 pub mod ChangedVolumes
+pub mod JournalVolume

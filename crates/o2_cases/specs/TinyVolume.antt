@@ -5,6 +5,7 @@ use Rattle.std.specs.Prelude.{ℕ, ◌-◌, ◌==◌, List, [], ◌∷◌, ◌++
 use Rattle.byteorder.specs.Endian.{little_bytes}
 use Rattle.o2_ondisk.specs.Fields.{put_at}
 use Rattle.o2_ondisk.specs.Signatures.{inode_signature}
+use Rattle.o2_ondisk.specs.declared.extent_rec.ExtentRec.{ExtentRec}
 use Rattle.o2_ondisk.specs.declared.group_desc.GroupDesc.{GroupDesc}
 use Rattle.o2_model.specs.declared.allocator.Allocator.{Allocator}
 use Rattle.o2_model.specs.declared.allocator.BitUse.TheVariants.{Clusters, Inodes}
@@ -43,10 +44,14 @@ abbrev pub allocator_bytes : ℕ → ℕ → ℕ → ℕ → List ℕ
 allocator_bytes block cpg bpc head =
     dinode_bytes block 0o100644 0x401 0 0 (little_bytes 2 cpg ++ little_bytes 2 bpc ++ little_bytes 2 1 ++ little_bytes 2 1 ++ zero_bytes 16 ++ little_bytes 8 head)
 
+-- a list with this one record, of 19 that fit
+abbrev pub one_record : ExtentRec → List ℕ
+one_record r = little_bytes 2 0 ++ little_bytes 2 19 ++ little_bytes 2 1 ++ zero_bytes 10 ++ record_bytes r
+
 -- a file of 5 bytes in cluster 5
 abbrev pub hello_bytes : ℕ → List ℕ
 hello_bytes block =
-    dinode_bytes block 0o100644 0x1 0 5 (little_bytes 2 0 ++ little_bytes 2 19 ++ little_bytes 2 1 ++ zero_bytes 10 ++ record_bytes (record_of 0 1 0 40))
+    dinode_bytes block 0o100644 0x1 0 5 (one_record (record_of 0 1 0 40))
 
 -- ---- the volume
 abbrev pub tiny_geo : Geo

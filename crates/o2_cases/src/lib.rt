@@ -5,6 +5,7 @@ mod check_cases;
 mod entry_cases;
 mod extent_cases;
 mod group_cases;
+mod journal_cases;
 mod log_cases;
 mod slot_cases;
 mod super_cases;
@@ -21,6 +22,7 @@ pub use extent_cases::{
 pub use group_cases::{
     bitmap_groups_on_cases, block_groups_on_cases, chains_on_cases, free_bits_on_cases,
 };
+pub use journal_cases::{dirty_slots_on_cases, journals_on_cases, logged_writes_on_cases};
 pub use log_cases::{bounds_on_cases, tags_on_cases, transactions_on_cases, writes_on_cases};
 pub use slot_cases::{truncate_logs_on_cases, truncations_on_cases, windows_on_cases};
 pub use super_cases::{
