@@ -8,3 +8,4 @@ pub mod SmallSlots
 pub mod TinyVolume
 pub mod ChangedVolumes
 pub mod JournalVolume
+pub mod SkeletonVolume

@@ -35,14 +35,14 @@ dinode_bytes block mode flags dyn_features size tail =
     (put_at 0x50 8 block (put_at 0x60 4 5 (put_at 0x76 2 dyn_features (zero_bytes 192)))))))
     ++ tail
 
--- a directory whose entries stand in its dinode
+-- a directory whose entries stand in its dinode, which has room for 312 bytes of them (id_count)
 abbrev pub directory_bytes : ℕ → List ℕ → List ℕ
-directory_bytes block entries = dinode_bytes block 0o40755 0x1 1 (length entries) (zero_bytes 8 ++ entries)
+directory_bytes block entries = dinode_bytes block 0o40755 0x1 1 (length entries) (little_bytes 2 312 ++ zero_bytes 6 ++ entries)
 
 -- an allocator with one chain that begins with the group in block `head` (cl_cpg, cl_bpc)
 abbrev pub allocator_bytes : ℕ → ℕ → ℕ → ℕ → List ℕ
 allocator_bytes block cpg bpc head =
-    dinode_bytes block 0o100644 0x401 0 0 (little_bytes 2 cpg ++ little_bytes 2 bpc ++ little_bytes 2 1 ++ little_bytes 2 1 ++ zero_bytes 16 ++ little_bytes 8 head)
+    dinode_bytes block 0o100644 0x481 0 0 (little_bytes 2 cpg ++ little_bytes 2 bpc ++ little_bytes 2 1 ++ little_bytes 2 1 ++ zero_bytes 16 ++ little_bytes 8 head)
 
 -- a list with this one record, of 19 that fit
 abbrev pub one_record : ExtentRec → List ℕ

@@ -7,6 +7,7 @@ mod extent_cases;
 mod group_cases;
 mod journal_cases;
 mod log_cases;
+mod skeleton_cases;
 mod slot_cases;
 mod super_cases;
 mod volume_cases;
@@ -24,6 +25,10 @@ pub use group_cases::{
 };
 pub use journal_cases::{dirty_slots_on_cases, journals_on_cases, logged_writes_on_cases};
 pub use log_cases::{bounds_on_cases, tags_on_cases, transactions_on_cases, writes_on_cases};
+pub use skeleton_cases::{
+    broken_skeletons_on_cases, directories_of_skeleton, files_of_skeleton, numbers_of_skeleton,
+    system_entries_on_cases,
+};
 pub use slot_cases::{truncate_logs_on_cases, truncations_on_cases, windows_on_cases};
 pub use super_cases::{
     cluster_ranges_on_cases, directories_on_cases, first_group_on_cases, group_places_on_cases,
