@@ -24,7 +24,7 @@ file_bytes records =
 abbrev pub file_of : List ExtentRec → Volume
 file_of records = small_at (λ b. if b == 40 then file_bytes records else [])
 
--- cluster 0 of a file in the volume's cluster 2, then two that are unwritten, a record without clusters, two of a hole, and one more
+-- cluster 0 of a file, two that are unwritten, a record without clusters, two clusters of a hole, and one more
 abbrev pub records_with_hole : List ExtentRec
 records_with_hole = record_of 0 1 0 16 ∷ record_of 1 2 1 24 ∷ record_of 3 0 0 0 ∷ record_of 5 1 0 48 ∷ []
 

@@ -4,6 +4,7 @@
 mod check_cases;
 mod entry_cases;
 mod extent_cases;
+mod failing_cases;
 mod group_cases;
 mod journal_cases;
 mod log_cases;
@@ -20,6 +21,7 @@ pub use extent_cases::{
     bytes_on_cases, headers_on_cases, leaf_records_on_cases, leaves_on_cases,
     overlapping_records_on_cases,
 };
+pub use failing_cases::failures_on_cases;
 pub use group_cases::{
     bitmap_groups_on_cases, block_groups_on_cases, chains_on_cases, free_bits_on_cases,
 };
