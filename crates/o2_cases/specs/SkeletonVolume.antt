@@ -4,6 +4,7 @@
 use Rattle.std.specs.Prelude.{ℕ, ◌==◌, List, [], ◌++◌, codes, if◌then◌else◌}
 use Rattle.byteorder.specs.Endian.{little_bytes}
 use Rattle.o2_model.specs.declared.geo.Geo.{Geo}
+use Rattle.o2_model.specs.Directories.{Entry}
 use Rattle.o2_model.specs.Volume.{Volume, over}
 use Rattle.o2_cases.specs.SmallBytes.{zero_bytes}
 use Rattle.o2_cases.specs.SmallVolumes.{small_geo}
@@ -31,6 +32,9 @@ system_entry_bytes =
 -- the last one
 abbrev pub last_entry_bytes : List ℕ
 last_entry_bytes = named_bytes 27 32 1 (codes "truncate_log:0000")
+
+abbrev pub truncate_log_entry : Entry
+truncate_log_entry = record { inode = 27; file_type = 1; name = codes "truncate_log:0000"; block = 17; at = 252 }
 
 -- an allocator of blocks with no chain in use
 abbrev pub empty_allocator_bytes : ℕ → List ℕ

@@ -1,5 +1,5 @@
 // Checks that hold on a small volume, and fail where one of its blocks is changed.
-ghost use Rattle.std.specs.Prelude.{◌≡◌, List, [], ◌∷◌, ◌++◌, codes};
+ghost use Rattle.std.specs.Prelude.{◌≡◌, [], ◌∷◌, codes};
 ghost use Rattle.o2_model.specs.Checks.ChainLink.{chain_link_faults};
 ghost use Rattle.o2_model.specs.Checks.ClusterAllocBit.{cluster_alloc_bit_faults};
 ghost use Rattle.o2_model.specs.Checks.DirDots.{dir_dots_faults};

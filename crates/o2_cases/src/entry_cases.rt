@@ -1,6 +1,6 @@
 // Entries of a directory on single cases.
-ghost use Rattle.std.specs.Prelude.{◌≡◌, List, [], ◌∷◌, ◌++◌, true, false, codes, Some, None};
-ghost use Rattle.o2_model.specs.Directories.{NamedEntry, entries_in, entry_at_front, has_entry, is_live};
+ghost use Rattle.std.specs.Prelude.{◌≡◌, [], ◌∷◌, ◌++◌, true, false, codes, Some, None};
+ghost use Rattle.o2_model.specs.Directories.{entries_in, entry_at_front, has_entry, is_live};
 ghost use Rattle.o2_cases.specs.SmallEntries.{entry_bytes, live_bytes, name_bytes, void_bytes};
 
 /// A law: an entry stands at the front of the bytes that it fills. It does not where its length is 0 or no multiple of 4, goes

@@ -1,5 +1,5 @@
 // Extents on single cases.
-ghost use Rattle.std.specs.Prelude.{◌≡◌, List, [], ◌∷◌, true, false};
+ghost use Rattle.std.specs.Prelude.{◌≡◌, [], ◌∷◌, true, false};
 ghost use Rattle.o2_model.specs.Extents.{is_sound_header, is_sound_leaf};
 ghost use Rattle.o2_model.specs.Inodes.{leaf_records};
 ghost use Rattle.o2_model.specs.Checks.Extent.{extent_faults};

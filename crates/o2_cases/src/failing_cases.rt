@@ -1,5 +1,5 @@
 // Which failures are told, on single cases.
-ghost use Rattle.std.specs.Prelude.{◌≡◌, List, [], ◌∷◌};
+ghost use Rattle.std.specs.Prelude.{◌≡◌, [], ◌∷◌};
 ghost use Rattle.o2_model.specs.declared.check.Check.TheVariants.{Extent, GroupChain, Root, Super};
 ghost use Rattle.o2_model.specs.Failing.{first_or_else};
 

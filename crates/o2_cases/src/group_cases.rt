@@ -1,5 +1,5 @@
 // Groups of allocators on single cases.
-ghost use Rattle.std.specs.Prelude.{◌≡◌, List, [], ◌∷◌, true, false};
+ghost use Rattle.std.specs.Prelude.{◌≡◌, [], ◌∷◌, true, false};
 ghost use Rattle.o2_ondisk.specs.Signatures.{inode_signature};
 ghost use Rattle.o2_model.specs.Groups.{is_good_group, walk_chain};
 ghost use Rattle.o2_model.specs.Checks.GroupFreeBits.{has_free_bits};

@@ -1,10 +1,9 @@
 // A volume with a journal, on single cases.
-ghost use Rattle.std.specs.Prelude.{◌≡◌, List, [], ◌∷◌, Some, None, true, false};
+ghost use Rattle.std.specs.Prelude.{◌≡◌, [], ◌∷◌, Some, None, true, false};
 ghost use Rattle.o2_model.specs.declared.journal_part.JournalPart.TheVariants.{Superblock};
 ghost use Rattle.o2_model.specs.Checks.Journal.{is_sound_journal};
 ghost use Rattle.o2_model.specs.Dirty.{as_logged, committed_writes, dirty_slots, journal_fault};
 ghost use Rattle.o2_model.specs.Journals.{journals};
-ghost use Rattle.o2_model.specs.Logs.{LoggedBlock};
 ghost use Rattle.o2_cases.specs.JournalVolume.{journal_volume};
 
 /// A law: the journal that a slot's name names is found, and is sound where its log begins 0 or one of its blocks.

@@ -1,8 +1,8 @@
 // Logs on single cases.
-ghost use Rattle.std.specs.Prelude.{◌≡◌, List, [], ◌∷◌, true, false};
+ghost use Rattle.std.specs.Prelude.{◌≡◌, [], ◌∷◌, true, false};
 ghost use Rattle.o2_model.specs.Dirty.{bytes_after};
 ghost use Rattle.o2_model.specs.Journals.{has_sound_bounds};
-ghost use Rattle.o2_model.specs.Logs.{LoggedBlock, Tag, Transaction, no_writes, read_log, revokes_of, tags_of};
+ghost use Rattle.o2_model.specs.Logs.{no_writes, read_log, revokes_of, tags_of};
 ghost use Rattle.o2_cases.specs.SmallLogs.{bounds, commit, one_tag, revoke, two_tags};
 
 /// A law: the tags of a descriptor go up to the last one, with or without an identifier between them.

@@ -1,5 +1,5 @@
 // The checks of a volume's skeleton: they hold on a small volume, and fail on changed ones.
-ghost use Rattle.std.specs.Prelude.{◌≡◌, List, [], ◌∷◌, codes, true, false};
+ghost use Rattle.std.specs.Prelude.{◌≡◌, [], ◌∷◌, true, false};
 ghost use Rattle.o2_model.specs.Checks.ChainHeader.{chain_header_faults};
 ghost use Rattle.o2_model.specs.Checks.Journal.{journal_faults};
 ghost use Rattle.o2_model.specs.Checks.Root.{root_faults};
@@ -7,7 +7,7 @@ ghost use Rattle.o2_model.specs.Checks.SlotMap.{slot_map_faults};
 ghost use Rattle.o2_model.specs.Checks.Super.{super_faults};
 ghost use Rattle.o2_model.specs.Checks.Sysdir.{sysdir_faults};
 ghost use Rattle.o2_model.specs.Checks.Sysfile.{has_system_files, is_sound_system_entry};
-ghost use Rattle.o2_cases.specs.SkeletonVolume.{empty_bytes, last_entry_bytes, skeleton, skeleton_with, system_entry_bytes};
+ghost use Rattle.o2_cases.specs.SkeletonVolume.{empty_bytes, last_entry_bytes, skeleton, skeleton_with, system_entry_bytes, truncate_log_entry};
 ghost use Rattle.o2_cases.specs.TinyVolume.{allocator_bytes, directory_bytes};
 
 /// A law: the numbers of a small volume's superblock fit the device.
@@ -32,8 +32,8 @@ pub fn files_of_skeleton()
 
 /// A law: the entry of the truncate log is sound, and it is not where its inode lacks the flag.
 pub fn system_entries_on_cases()
-    ensures sound { is_sound_system_entry skeleton (record { inode = 27; file_type = 1; name = codes "truncate_log:0000"; block = 17; at = 252 }) ≡ true }
-    ensures no_flag { is_sound_system_entry (skeleton_with 27 (empty_bytes 27 0x1)) (record { inode = 27; file_type = 1; name = codes "truncate_log:0000"; block = 17; at = 252 }) ≡ false }
+    ensures sound { is_sound_system_entry skeleton truncate_log_entry ≡ true }
+    ensures no_flag { is_sound_system_entry (skeleton_with 27 (empty_bytes 27 0x1)) truncate_log_entry ≡ false }
 {}
 
 /// A law: these checks fail on a volume with one block changed, each at the block that the check names.

@@ -1,5 +1,5 @@
 // What a slot holds of the volume's clusters, on single cases.
-ghost use Rattle.std.specs.Prelude.{◌≡◌, List, [], ◌∷◌, true, false};
+ghost use Rattle.std.specs.Prelude.{◌≡◌, [], ◌∷◌, true, false};
 ghost use Rattle.o2_model.specs.Slots.{is_sound_truncate_header, is_sound_truncation, is_sound_window, is_sound_window_size, truncated_clusters, window_clusters};
 ghost use Rattle.o2_cases.specs.SmallVolumes.{small};
 ghost use Rattle.o2_cases.specs.SmallSlots.{with_truncate_log, with_window};

@@ -1,6 +1,5 @@
 // The numbers of a superblock on single cases.
-ghost use Rattle.std.specs.Prelude.{◌≡◌, List, [], ◌∷◌, true, false};
-ghost use Rattle.o2_model.specs.Volume.{blocks, is_in_range};
+ghost use Rattle.std.specs.Prelude.{◌≡◌, [], ◌∷◌, true, false};
 ghost use Rattle.o2_model.specs.Clusters.{are_clusters_in_range};
 ghost use Rattle.o2_model.specs.ClusterGroups.{backup_clusters, group_count, group_index, group_place, group_size};
 ghost use Rattle.o2_model.specs.Checks.Super.{has_sound_directories, has_sound_first_group, has_sound_sizes};

@@ -1,5 +1,5 @@
 // The allocators, the inodes and the tree of one small volume.
-ghost use Rattle.std.specs.Prelude.{◌≡◌, List, [], ◌∷◌, ◌++◌, Some, None, true, false, codes};
+ghost use Rattle.std.specs.Prelude.{◌≡◌, [], ◌∷◌, ◌++◌, Some, None, false, codes};
 ghost use Rattle.o2_model.specs.declared.system_file.SystemFile.TheVariants.{GlobalBitmap, SlotMap};
 ghost use Rattle.o2_model.specs.SystemFiles.{system_inode};
 ghost use Rattle.o2_model.specs.Allocators.{allocators};
