@@ -1,0 +1,22 @@
+use Rattle.std.proofs.Common.{refl}
+use Rattle.o2_ondisk.specs.Number.{number_at}
+use Rattle.o2_ondisk.specs.Fields.{put_at, paste_at}
+use Rattle.o2_model.specs.Volume.{is_valid}
+use Rattle.o2_model.specs.Directories.{has_entry, entries_in, dir_blocks, directory_entries}
+use Rattle.o2_model.specs.SystemFiles.{system_name, system_inode}
+use Rattle.o2_model.specs.Allocators.{is_allocator, allocators, is_sound_chain_header, chains, chain_heads}
+use Rattle.o2_model.specs.Groups.{is_good_group, group_walk, is_inode, inodes_of}
+use Rattle.o2_model.specs.Clusters.{are_clusters_in_range}
+use Rattle.o2_model.specs.Extents.{is_sound_header, is_sound_leaf}
+use Rattle.o2_model.specs.Inodes.{holds_list, extents, extent_lists_of, is_directory, is_file, is_link}
+use Rattle.o2_model.specs.Claims.{structure_claims, inode_claims, claims_with_indexes, claims_with_windows, claims_with_truncations, claims_of}
+use Rattle.o2_model.specs.Indexes.{indexed_directories, is_indexed}
+use Rattle.o2_cases.proofs.volume_cases.claims_of_volume.Goals as goal
+
+pub returns-clause-structures : goal.returns-clause-structures
+unfolding number_at put_at paste_at is_valid has_entry entries_in dir_blocks directory_entries system_name system_inode is_allocator allocators is_sound_chain_header chains chain_heads is_good_group group_walk is_inode inodes_of are_clusters_in_range is_sound_header is_sound_leaf holds_list extents extent_lists_of is_directory is_file is_link structure_claims inode_claims claims_with_indexes claims_with_windows claims_with_truncations claims_of indexed_directories is_indexed
+returns-clause-structures c = refl
+
+pub returns-clause-claims : goal.returns-clause-claims
+unfolding number_at put_at paste_at is_valid has_entry entries_in dir_blocks directory_entries system_name system_inode is_allocator allocators is_sound_chain_header chains chain_heads is_good_group group_walk is_inode inodes_of are_clusters_in_range is_sound_header is_sound_leaf holds_list extents extent_lists_of is_directory is_file is_link structure_claims inode_claims claims_with_indexes claims_with_windows claims_with_truncations claims_of indexed_directories is_indexed
+returns-clause-claims c = refl

@@ -1,0 +1,49 @@
+-- Blocks of a small log, as short as what is read of them.
+use Rattle.std.specs.Prelude.{ℕ, List, [], ◌∷◌, ◌++◌}
+use Rattle.byteorder.specs.Endian.{big_bytes}
+use Rattle.o2_ondisk.specs.declared.journal_super.JournalSuper.{JournalSuper}
+use Rattle.o2_model.specs.Journals.{log_magic}
+use Rattle.o2_model.specs.Logs.{descriptor_type, commit_type, revoke_type}
+
+-- the 12 bytes with which a block of the log begins, of this type and in the transaction of this number
+abbrev pub header_bytes : ℕ → ℕ → List ℕ
+header_bytes type sequence = big_bytes 4 log_magic ++ big_bytes 4 type ++ big_bytes 4 sequence
+
+-- a tag of this block, of 8 bytes, with these flags
+abbrev pub tag_bytes : ℕ → ℕ → List ℕ
+tag_bytes block flags = big_bytes 4 block ++ big_bytes 2 0 ++ big_bytes 2 flags
+
+-- the identifier behind the first tag of a descriptor
+abbrev pub identifier : List ℕ
+identifier = 1 ∷ 2 ∷ 3 ∷ 4 ∷ 5 ∷ 6 ∷ 7 ∷ 8 ∷ 9 ∷ 10 ∷ 11 ∷ 12 ∷ 13 ∷ 14 ∷ 15 ∷ 16 ∷ []
+
+-- a descriptor with one tag, of block 7, which is the last (8) and without an identifier (2)
+abbrev pub one_tag : ℕ → List ℕ
+one_tag sequence = header_bytes descriptor_type sequence ++ tag_bytes 7 0xa
+
+-- a descriptor with a tag of block 7 and its identifier, and then the last, of block 8, whose block is escaped (1)
+abbrev pub two_tags : ℕ → List ℕ
+two_tags sequence = header_bytes descriptor_type sequence ++ tag_bytes 7 0 ++ identifier ++ tag_bytes 8 0xb
+
+-- a block that revokes block 7, with 20 bytes in use
+abbrev pub revoke : ℕ → List ℕ
+revoke sequence = header_bytes revoke_type sequence ++ big_bytes 4 20 ++ big_bytes 4 7
+
+abbrev pub commit : ℕ → List ℕ
+commit sequence = header_bytes commit_type sequence
+
+-- a superblock of a journal whose log has these bounds and begins at this block
+abbrev pub bounds : ℕ → ℕ → ℕ → JournalSuper
+bounds first maxlen start = record {
+  magic = log_magic;
+  blocktype = 4;
+  blocksize = 512;
+  maxlen = maxlen;
+  first = first;
+  sequence = 9;
+  start = start;
+  feature_compat = 0;
+  feature_incompat = 0;
+  feature_ro_compat = 0;
+  nr_users = 1;
+}

@@ -1,0 +1,37 @@
+// What a slot holds of the volume's clusters, on single cases.
+ghost use Rattle.std.specs.Prelude.{◌≡◌, [], ◌∷◌, true, false};
+ghost use Rattle.o2_model.specs.Slots.{is_sound_truncate_header, is_sound_truncation, is_sound_window, is_sound_window_size, truncated_clusters, window_clusters};
+ghost use Rattle.o2_cases.specs.SmallVolumes.{small};
+ghost use Rattle.o2_cases.specs.SmallSlots.{with_truncate_log, with_window};
+
+/// A law: the clusters of a truncate record are the volume's, and nobody else claims them; a void record has none.
+pub fn truncations_on_cases()
+    ensures sound { is_sound_truncation small (5 ∷ []) (record { start = 6; clusters = 94 }) ≡ true }
+    ensures claimed { is_sound_truncation small (5 ∷ []) (record { start = 4; clusters = 2 }) ≡ false }
+    ensures crossing { is_sound_truncation small (5 ∷ []) (record { start = 6; clusters = 95 }) ≡ false }
+    ensures behind_volume { is_sound_truncation small (5 ∷ []) (record { start = 100; clusters = 0 }) ≡ false }
+    ensures void { is_sound_truncation small (5 ∷ []) (record { start = 0; clusters = 200 }) ≡ true }
+    ensures no_clusters { truncated_clusters (record { start = 0; clusters = 200 }) ≡ [] }
+    ensures clusters { truncated_clusters (record { start = 4; clusters = 2 }) ≡ 4 ∷ 5 ∷ [] }
+{}
+
+/// A law: a truncate log has no more records than room, and that fits its dinode, here for 39.
+pub fn truncate_logs_on_cases()
+    ensures full { is_sound_truncate_header (with_truncate_log 39 39) 40 ≡ true }
+    ensures large_count { is_sound_truncate_header (with_truncate_log 40 1) 40 ≡ false }
+    ensures large_use { is_sound_truncate_header (with_truncate_log 3 4) 40 ≡ false }
+{}
+
+/// A law: the bitmap of a window fits its dinode, here with 304 bytes. A window of 4 clusters from cluster 20 on, of which the
+/// second is in use, has the three others.
+pub fn windows_on_cases()
+    ensures fits { is_sound_window_size (with_window 304 4 1) 40 ≡ true }
+    ensures large { is_sound_window_size (with_window 305 4 1) 40 ≡ false }
+    ensures clusters { window_clusters (with_window 304 4 1) 40 ≡ 20 ∷ 22 ∷ 23 ∷ [] }
+    ensures sound { is_sound_window (with_window 304 4 1) (21 ∷ []) 40 ≡ true }
+    ensures claimed { is_sound_window (with_window 304 4 1) (22 ∷ []) 40 ≡ false }
+    ensures used { is_sound_window (with_window 304 4 2) [] 40 ≡ false }
+    ensures short_bitmap { is_sound_window (with_window 0 4 1) [] 40 ≡ false }
+    ensures behind_volume { is_sound_window (with_window 304 81 1) [] 40 ≡ false }
+    ensures none { is_sound_window (with_window 304 0 0) [] 40 ≡ true }
+{}
