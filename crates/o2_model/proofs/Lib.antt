@@ -10,6 +10,7 @@ pub mod SameGroups
 pub mod ChainEnds
 pub mod SameEntries
 pub mod Rising
+pub mod SlotNames
 pub mod Failing
 pub mod SameInodes
 pub mod NothingFails

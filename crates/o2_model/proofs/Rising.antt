@@ -1,20 +1,48 @@
 -- A list that strictly rises and has the same numbers is the list in order.
-use Rattle.std.proofs.Common.{◌≡◌, inl, inr, eqb, ℕ, Bool, true, false, cond, ◌||◌, ◌&&◌, List, [], ◌∷◌, map, refl, sym, ◌∙◌, ap, subst, Option, Some, None}
+use Rattle.std.proofs.Common.{◌≡◌, inl, inr, eqb, ℕ, Bool, true, false, cond, ◌||◌, ◌&&◌, ◌==◌, nat_lt, List, [], ◌∷◌, map, length, arith, refl, sym, ◌∙◌, ap, subst, Option, Some, None}
 use Rattle.std.specs.List.{list_any, AllByRecursion, dedup, dedup_from}
 use Rattle.std.specs.List.Sorted.{IsStrictlySortedBy, IsSorted, IsPermutation}
 use Rattle.std.proofs.lemmas.List.Sorted.{list_any-IsPermutation}
 use Rattle.std.proofs.lemmas.Map.Keys.{sorted_from_strictly_increasing, IsStrictlyIncreasing-dedup}
 use Rattle.std.specs.FinMap as finite
-use Rattle.std.specs.FinMap.Entries.{below_all}
-use Rattle.std.specs.declared.cmp.Ordering.TheVariants.{Less}
+use Rattle.std.specs.FinMap.Entries.{below_all, by_order, put}
+use Rattle.std.specs.declared.cmp.Ordering.TheVariants.{Less, Equal, Greater}
 use Rattle.std.specs.Ordering.{nat_cmp, eq_by_cmp, is_lt, is_eq}
 use Rattle.std.specs.Cmp.{nat_cmp_total, tied_itself}
 use lib.Dec.{T}
 use Rattle.std.proofs.lemmas.Bool.{cases_Bool, eqb-true}
-use Rattle.o2_model.specs.Orders.{rising}
+use Rattle.o2_model.specs.Orders.{with_number, rising}
 
 abbrev pub marks : List ℕ → List (ℕ × Unit {0})
 marks ns = map (λ n. (n, tt {0})) ns
+
+-- ---- as the keys of a finite map
+
+-- three cases by two tests
+by_tests : {A : Type 0} (f : A → List ℕ) (below same : Bool) (x y z : A) → f (by_order (cond below Less (cond same Equal Greater)) x y z) ≡ cond below (f x) (cond same (f y) (f z))
+by_tests f true same x y z = refl
+by_tests f false true x y z = refl
+by_tests f false false x y z = refl
+
+keys-put : (n : ℕ) (es : List (ℕ × Unit {0})) → map (λ e. e.0) (put nat_cmp n (tt {0}) es) ≡ with_number n (map (λ e. e.0) es)
+keys-put n [] = refl
+keys-put n (e ∷ es) =
+    by_tests (map (λ (x : ℕ × Unit {0}). x.0)) (nat_lt n e.0) (n == e.0) ((n, tt {0}) ∷ e ∷ es) ((e.0, tt {0}) ∷ es) (e ∷ put nat_cmp n (tt {0}) es)
+    ∙ ap (λ ms. cond (nat_lt n e.0) (n ∷ e.0 ∷ map (λ (x : ℕ × Unit {0}). x.0) es) (cond (n == e.0) (e.0 ∷ map (λ (x : ℕ × Unit {0}). x.0) es) (e.0 ∷ ms))) (keys-put n es)
+
+none_of_length : {A : Type 0} (xs : List A) → length xs ≡ 0 → xs ≡ []
+none_of_length [] h = refl
+none_of_length (x ∷ xs) h = absurd (omega arith)
+
+-- numbers in order are the keys of a finite map
+rising-keys : (ns : List ℕ) → rising ns ≡ finite.keys (finite.from_entries {R = nat_cmp} (marks ns))
+rising-keys [] = ap (map (λ (e : ℕ × Unit {0}). e.0)) (sym (none_of_length _ (sym (finite.len-entries finite.empty) ∙ finite.len-empty nat_cmp (Unit {0}))))
+rising-keys (n ∷ ns) =
+    let m = finite.from_entries {R = nat_cmp} (marks ns) in
+    ap (with_number n) (rising-keys ns)
+    ∙ (sym (keys-put n (finite.entries m)) ∙ ap (map (λ (e : ℕ × Unit {0}). e.0)) (sym (finite.entries-insert nat_cmp_total m n (tt {0}))))
+
+-- ---- what they are
 
 either : (a b : Bool) (o : Option (Unit {0})) → o ≡ cond b (Some (tt {0})) None → cond a (Some (tt {0})) o ≡ cond (a || b) (Some (tt {0})) None
 either true b o h = refl
@@ -48,7 +76,7 @@ rising_is ns ms sorted same =
     let one : finite.from_entries {R = nat_cmp} (marks ns) ≡ finite.from_sorted {R = nat_cmp} (marks ms)
     = finite.same_map nat_cmp_total finite.nat_cmp-IsAntisymmetric _ _ (λ q.
     finite.get-from_entries nat_cmp_total (marks ns) q ∙ (find-marks ns q ∙ (ap (λ b. cond b (Some (tt {0})) None) (sym (same q)) ∙ (sym (find-marks ms q) ∙ sym (finite.get-from_sorted nat_cmp (marks ms) q h))))) in
-    ap finite.keys one ∙ (ap (map (λ (e : ℕ × Unit {0}). e.0)) (finite.entries-from_sorted nat_cmp (marks ms) h) ∙ keys-marks ms)
+    rising-keys ns ∙ (ap finite.keys one ∙ (ap (map (λ (e : ℕ × Unit {0}). e.0)) (finite.entries-from_sorted nat_cmp (marks ms) h) ∙ keys-marks ms))
 
 map_none : {A B : Type 0} (f : A → B) (xs : List A) → map f xs ≡ [] → xs ≡ []
 map_none f [] h = refl
@@ -59,7 +87,7 @@ pub none_rising : (ns : List ℕ) → rising ns ≡ [] → ns ≡ []
 none_rising [] h = refl
 none_rising (n ∷ ns) h =
     let m = finite.from_entries {R = nat_cmp} (marks (n ∷ ns)) in
-    let nothing : finite.entries m ≡ [] = map_none (λ (e : ℕ × Unit {0}). e.0) (finite.entries m) h in
+    let nothing : finite.entries m ≡ [] = map_none (λ (e : ℕ × Unit {0}). e.0) (finite.entries m) (sym (rising-keys (n ∷ ns)) ∙ h) in
     let absent : finite.get m n ≡ None = finite.get-entries m n ∙ ap (finite.find nat_cmp n) nothing in
     let there : finite.get m n ≡ Some (tt {0}) = finite.get-from_entries nat_cmp_total (marks (n ∷ ns)) n ∙ ap (λ r. cond (is_eq r) (Some (tt {0})) (finite.find nat_cmp n (marks ns))) (tied_itself nat_cmp_total n) in
     let e : None ≡ Some (tt {0}) = sym absent ∙ there in cc
@@ -85,10 +113,3 @@ pub rising_sorted : (ns ms : List ℕ) → IsPermutation ns ms → IsSorted nat_
 rising_sorted ns ms moved sorted =
     rising_is ns (dedup eqb ms) (sorted_from_strictly_increasing _ (IsStrictlyIncreasing-dedup ms sorted))
     (λ q. any_dedup (eq_by_cmp nat_cmp q) ms ∙ sym (list_any-IsPermutation (eq_by_cmp nat_cmp q) ns ms moved))
-
--- one of two is one of them with the second said first
-pub or_in_turn : (a b : Bool) → (a || (b || false)) ≡ (b || (a || (b || false)))
-or_in_turn true true = refl
-or_in_turn true false = refl
-or_in_turn false true = refl
-or_in_turn false false = refl

@@ -1,6 +1,6 @@
 -- Where nothing fails, the volume's own files are inodes, and no directory is a journal.
 use Rattle.std.proofs.Common.{◌≡◌, inl, inr, ℕ, Bool, true, false, ◌&&◌, ◌||◌, not, ◌==◌, List, [], ◌∷◌, ◌++◌, refl, sym, ◌∙◌, ap, subst, arith, Option, Some, None}
-use Rattle.std.specs.Prelude.{filter, codes, bytes_eq, option_map}
+use Rattle.std.specs.Prelude.{filter, codes, bytes_eq, is_some, option_map}
 use Rattle.std.specs.List.{AllByRecursion, Contains}
 use Rattle.std.specs.Option.{option_map_or}
 use Rattle.std.proofs.lemmas.Bool.{cases_Bool, and_from, and_parts, or_right, eq-eqb, eqb-true, false≢true, cond-false, not_from_false}
@@ -15,14 +15,15 @@ use Rattle.o2_model.specs.Words.{among, fails_unless, fails_at}
 use Rattle.o2_model.specs.Volume.{Volume, is_valid}
 use Rattle.o2_model.specs.Inodes.{kind, is_directory, is_directory_kind, is_file, is_file_kind}
 use Rattle.o2_model.specs.Directories.{Entry, directory_entries, is_dot, is_named, first_named, own_inodes}
-use Rattle.o2_model.specs.SystemFiles.{system_name, system_inode, slots}
+use Rattle.o2_model.specs.SystemFiles.{system_name, slot_in_name, system_inode, slots}
 use Rattle.o2_model.specs.Journals.{named_journal, journals}
 use Rattle.o2_model.specs.Groups.{is_inode}
 use Rattle.o2_model.specs.Checks.Sysdir.{is_sound_directory, sysdir_faults}
 use Rattle.o2_model.specs.Checks.Root.{is_sound_root, root_faults}
-use Rattle.o2_model.specs.Checks.Sysfile.{has_system_files, is_name_of_slots, all_slots, has_kind_of_name, is_sound_system_entry, system_entries, sysfile_faults}
+use Rattle.o2_model.specs.Checks.Sysfile.{has_system_files, is_name_of_slot, has_kind_of_name, is_sound_system_entry, system_entries, sysfile_faults}
 use Rattle.o2_model.specs.Failing.{faults, failing}
 use Rattle.o2_model.proofs.NothingFails.{no_check_fails}
+use Rattle.o2_model.proofs.SlotNames.{slot_only}
 use Rattle.o2_model.proofs.Failing.{none_fails}
 use Rattle.o2_model.proofs.Found.{append_nothing, found, any_map, any_filter, passing, any_flat, find_passing, each_of}
 
@@ -158,17 +159,18 @@ two_names : (s t : ℕ) → bytes_eq (system_name (OfSlot Journal s)) (system_na
 unfolding system_name
 two_names s t = refl
 
-no_orphan_name : (e : Entry) (s : ℕ) (numbers : List ℕ) → is_named (system_name (OfSlot Journal s)) e ≡ true → is_name_of_slots OrphanDir numbers e ≡ false
-no_orphan_name e s numbers h = elim (cases_Bool (is_name_of_slots OrphanDir numbers e)) [
-  | inr other ↦ other
-  | inl orphan ↦
-      let t = passing (λ slot. is_named (system_name (OfSlot OrphanDir slot)) e) numbers orphan in
-      absurd (false≢true (sym (two_names s t.item) ∙ (ap (λ n. bytes_eq n (system_name (OfSlot OrphanDir t.item))) (sym (name_is e (system_name (OfSlot Journal s)) h)) ∙ t.passes)))
-]
+no_slot : (e : Entry) (s : ℕ) (slot : Option ℕ) → slot_in_name OrphanDir e.name ≡ slot → is_named (system_name (OfSlot Journal s)) e ≡ true → is_some slot ≡ false
+no_slot e s None is h = refl
+no_slot e s (Some t) is h =
+    let other : e.name ≡ system_name (OfSlot OrphanDir t) = slot_only OrphanDir e.name t is in
+    absurd (false≢true (sym (two_names s t) ∙ (ap (λ n. bytes_eq n (system_name (OfSlot OrphanDir t))) (sym (name_is e (system_name (OfSlot Journal s)) h)) ∙ (bytes_eq-Decides e.name (system_name (OfSlot OrphanDir t))).1 other)))
 
-is_file_by_name : (v : Volume) (e : Entry) → is_name_of_slots OrphanDir all_slots e ≡ false → has_kind_of_name v e ≡ true → is_file v e.inode ≡ true
+no_orphan_name : (e : Entry) (s : ℕ) → is_named (system_name (OfSlot Journal s)) e ≡ true → is_name_of_slot OrphanDir e ≡ false
+no_orphan_name e s h = no_slot e s (slot_in_name OrphanDir e.name) refl h
+
+is_file_by_name : (v : Volume) (e : Entry) → is_name_of_slot OrphanDir e ≡ false → has_kind_of_name v e ≡ true → is_file v e.inode ≡ true
 unfolding has_kind_of_name
-is_file_by_name v e other h = (and_parts (is_file v e.inode) _ (sym (cond-false (is_name_of_slots OrphanDir all_slots e) _ _ other) ∙ h)).0
+is_file_by_name v e other h = (and_parts (is_file v e.inode) _ (sym (cond-false (is_name_of_slot OrphanDir e) _ _ other) ∙ h)).0
 
 two_kinds : (k : Option Kind) → is_file_kind k ≡ true → is_directory_kind k ≡ true → ⊥
 two_kinds None f d = false≢true f
@@ -188,7 +190,7 @@ journal_is_file : (v : Volume) (s b : ℕ) → failing v ≡ [] → named_journa
 journal_is_file v s b none h =
     let named = named_file v (OfSlot Journal s) b none h in
     subst (λ x. is_file v x ≡ true) named.inode
-    (is_file_by_name v named.entry (no_orphan_name named.entry s all_slots named.name) (sound_parts v named.entry named.sound).1)
+    (is_file_by_name v named.entry (no_orphan_name named.entry s named.name) (sound_parts v named.entry named.sound).1)
 
 one : (b c : ℕ) → among (c ∷ []) b ≡ true → (b == c) ≡ true
 one b c h = grind arith

@@ -1,16 +1,20 @@
 -- Numbers in order, and items that come again.
-use Rattle.std.specs.Prelude.{ℕ, Bool, true, false, not, nat_lt, List, [], ◌∷◌, ◌++◌, map, filter, Option, Some, None}
-use Rattle.std.specs.FinMap as finite
-use Rattle.std.specs.Ordering.{nat_cmp}
+use Rattle.std.specs.Prelude.{ℕ, Bool, true, false, not, ◌==◌, nat_lt, List, [], ◌∷◌, ◌++◌, filter, Option, Some, None, if◌then◌else◌}
 use Rattle.std.specs.List.{range_with_len}
 
 -- the numbers from `low` on and below `high`
 abbrev pub from_to : ℕ → ℕ → List ℕ
 from_to low high = filter (λ n. not (nat_lt n low)) (range_with_len 0 high)
 
+-- the rising numbers with this one in its place, once
+abbrev pub with_number : ℕ → List ℕ → List ℕ
+with_number n [] = n ∷ []
+with_number n (m ∷ ms) = if nat_lt n m then n ∷ m ∷ ms else if n == m then m ∷ ms else m ∷ with_number n ms
+
 -- the same numbers rising, each once
 abbrev pub rising : List ℕ → List ℕ
-rising ns = finite.keys (finite.from_entries {R = nat_cmp} (map (λ n. (n, tt {0})) ns))
+rising [] = []
+rising (n ∷ ns) = with_number n (rising ns)
 
 -- the items that are like an earlier one, some of them more than once
 abbrev pub later_like : {A : Type 0} → (A → A → Bool) → List A → List A

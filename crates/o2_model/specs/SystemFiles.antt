@@ -1,5 +1,5 @@
 -- The files of the system directory, by their names.
-use Rattle.std.specs.Prelude.{ℕ, ◌+◌, ◌/◌, ◌%◌, List, [], ◌∷◌, ◌++◌, map, flat_map, codes, Option, option_map}
+use Rattle.std.specs.Prelude.{ℕ, ◌+◌, ◌-◌, ◌*◌, ◌/◌, ◌%◌, List, [], ◌∷◌, ◌++◌, map, flat_map, fold, drop, length, codes, bytes_eq, Option, Some, None, option_map, if◌then◌else◌}
 use Rattle.std.specs.List.{range_with_len}
 use Rattle.o2_model.specs.declared.system_file.SlotFile.{SlotFile}
 use Rattle.o2_model.specs.declared.system_file.SlotFile.TheVariants.{OrphanDir, ExtentAlloc, InodeAlloc, Journal, LocalAlloc, TruncateLog}
@@ -28,6 +28,16 @@ system_name SlotMap = codes "slot_map"
 system_name Heartbeat = codes "heartbeat"
 system_name GlobalBitmap = codes "global_bitmap"
 system_name (OfSlot file slot) = slot_file_name file ++ codes ":" ++ slot_digits slot
+
+-- the number that these bytes are as decimal digits
+abbrev pub decimal_number : List ℕ → ℕ
+decimal_number digits = fold (λ n digit. 10 * n + (digit - 48)) 0 digits
+
+-- the slot of whose file this is the name, as its last four bytes tell it; any other name is of no slot
+unfoldable pub slot_in_name : SlotFile → List ℕ → Option ℕ
+slot_in_name file name =
+    let slot = decimal_number (drop (length name - 4) name) in
+    if bytes_eq name (system_name (OfSlot file slot)) then Some slot else None
 
 -- what a slot has, in the order in which its files are told
 abbrev pub slot_files : List SlotFile

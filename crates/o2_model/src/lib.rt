@@ -12,6 +12,7 @@ mod geo;
 mod journal_part;
 mod laws;
 mod log_laws;
+mod name_laws;
 mod oddity;
 mod order_laws;
 mod owned_laws;
@@ -38,6 +39,7 @@ pub use geo::Geo;
 pub use journal_part::JournalPart;
 pub use laws::{geometry_tells_block_bits, label_alone_changes};
 pub use log_laws::log_is_what_its_blocks_spell;
+pub use name_laws::slot_names_tell_slots;
 pub use oddity::Oddity;
 pub use order_laws::{bits_and_blocks_agree, rising_numbers_are_the_list_in_order};
 pub use owned_laws::{

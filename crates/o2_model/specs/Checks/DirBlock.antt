@@ -1,4 +1,5 @@
--- DIR_BLOCK, at the directory's block.
+-- DIR_BLOCK, number 20, at the directory's block: entries (struct ocfs2_dir_entry) fill it, and in the first block they begin with
+-- `.` and `..`.
 use Rattle.std.specs.Prelude.{ℕ, Bool, false, ◌&&◌, ◌||◌, not, ◌==◌, List, ◌∷◌, codes, bytes_eq}
 use Rattle.std.specs.Option.{option_map_or}
 use Rattle.o2_model.specs.Words.{fails_at}

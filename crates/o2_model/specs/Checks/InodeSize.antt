@@ -1,4 +1,4 @@
--- INODE_SIZE, at the inode.
+-- INODE_SIZE, number 19, at the inode: i_size fits what the inode is, and where its data stands.
 use Rattle.std.specs.Prelude.{ℕ, ◌*◌, ◌/◌, ◌%◌, ◌^◌, ◌-◌, Bool, true, ◌&&◌, ◌||◌, ◌==◌, nat_lt, nat_le, List, length, Option, Some, if◌then◌else◌}
 use Rattle.std.specs.List.{list_any}
 use Rattle.o2_ondisk.specs.Number.{number_at}

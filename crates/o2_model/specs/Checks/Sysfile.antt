@@ -1,7 +1,7 @@
 -- SYSFILE, number 3, at the inode that an entry of the system directory names, else at the system directory: the volume's own
 -- files are there, are what their names say, and stand on bits of inode allocators.
-use Rattle.std.specs.Prelude.{ℕ, Bool, true, false, ◌&&◌, ◌||◌, not, ◌==◌, List, ◌++◌, map, if◌then◌else◌}
-use Rattle.std.specs.List.{range_with_len, list_any, list_all}
+use Rattle.std.specs.Prelude.{ℕ, Bool, true, false, ◌&&◌, ◌||◌, not, ◌==◌, nat_le, List, ◌++◌, map, is_some, if◌then◌else◌}
+use Rattle.std.specs.List.{list_any, list_all}
 use Rattle.std.specs.Option.{option_map_or}
 use Rattle.o2_ondisk.specs.Bits.{has_bits, chain_inode_flag, bitmap_inode_flag, journal_inode_flag, local_alloc_inode_flag, dealloc_inode_flag}
 use Rattle.o2_ondisk.specs.declared.kind.Kind.TheVariants.{File, Directory}
@@ -9,13 +9,13 @@ use Rattle.o2_ondisk.specs.Kinds.{type_of_kind}
 use Rattle.o2_model.specs.declared.system_file.SlotFile.{SlotFile}
 use Rattle.o2_model.specs.declared.system_file.SlotFile.TheVariants.{OrphanDir, ExtentAlloc, InodeAlloc, Journal, LocalAlloc, TruncateLog}
 use Rattle.o2_model.specs.declared.system_file.SystemFile.{SystemFile}
-use Rattle.o2_model.specs.declared.system_file.SystemFile.TheVariants.{GlobalInodeAlloc, GlobalBitmap, OfSlot}
+use Rattle.o2_model.specs.declared.system_file.SystemFile.TheVariants.{GlobalInodeAlloc, GlobalBitmap}
 use Rattle.o2_model.specs.Words.{fails_unless, fails_at}
-use Rattle.o2_model.specs.Orders.{from_to, later_like}
+use Rattle.o2_model.specs.Orders.{later_like}
 use Rattle.o2_model.specs.Volume.{Volume, dinode}
 use Rattle.o2_model.specs.Inodes.{is_directory, is_file}
 use Rattle.o2_model.specs.Directories.{Entry, named_entries, is_named}
-use Rattle.o2_model.specs.SystemFiles.{system_name, system_inode, required_files, slot_files}
+use Rattle.o2_model.specs.SystemFiles.{system_name, slot_in_name, system_inode, required_files, slot_files}
 use Rattle.o2_model.specs.Groups.{is_inode}
 use Rattle.o2_model.specs.RefcountTrees.{has_refcount}
 
@@ -28,29 +28,25 @@ unfoldable pub has_system_files : Volume → Bool
 has_system_files v = list_all (is_there v) (required_files v) && is_inode v v.geo.root && is_inode v v.geo.sysdir
 
 -- ---- what a name asks for
--- the entry has the name of such a file of one of these slots
-abbrev pub is_name_of_slots : SlotFile → List ℕ → Entry → Bool
-is_name_of_slots file numbers e = list_any (λ slot. is_named (system_name (OfSlot file slot)) e) numbers
-
--- the numbers that a slot's name can have
-abbrev pub all_slots : List ℕ
-all_slots = range_with_len 0 10000
+-- the entry has the name of such a file of a slot, whatever its number
+abbrev pub is_name_of_slot : SlotFile → Entry → Bool
+is_name_of_slot file e = is_some (slot_in_name file e.name)
 
 -- the entry has a slot's name
 abbrev pub is_slot_name : Entry → Bool
-is_slot_name e = list_any (λ file. is_name_of_slots file all_slots e) slot_files
+is_slot_name e = list_any (λ file. is_name_of_slot file e) slot_files
 
 -- the entry has the name of a slot that the superblock does not count
 abbrev pub is_name_beyond_slots : Volume → Entry → Bool
-is_name_beyond_slots v e = list_any (λ file. is_name_of_slots file (from_to v.geo.slots 10000) e) slot_files
+is_name_beyond_slots v e = list_any (λ file. option_map_or (nat_le v.geo.slots) (slot_in_name file e.name) false) slot_files
 
 -- an allocator's name
 abbrev pub is_allocator_name : Entry → Bool
 is_allocator_name e =
     is_named (system_name GlobalBitmap) e
     || is_named (system_name GlobalInodeAlloc) e
-    || is_name_of_slots ExtentAlloc all_slots e
-    || is_name_of_slots InodeAlloc all_slots e
+    || is_name_of_slot ExtentAlloc e
+    || is_name_of_slot InodeAlloc e
 
 -- the inode has the flag, where it is asked for
 abbrev pub has_flag_if : Volume → Bool → ℕ → Entry → Bool
@@ -61,14 +57,14 @@ unfoldable pub has_flags_of_name : Volume → Entry → Bool
 has_flags_of_name v e =
     has_flag_if v (is_allocator_name e) chain_inode_flag e
     && has_flag_if v (is_allocator_name e) bitmap_inode_flag e
-    && has_flag_if v (is_name_of_slots Journal all_slots e) journal_inode_flag e
-    && has_flag_if v (is_name_of_slots LocalAlloc all_slots e) local_alloc_inode_flag e
-    && has_flag_if v (is_name_of_slots TruncateLog all_slots e) dealloc_inode_flag e
+    && has_flag_if v (is_name_of_slot Journal e) journal_inode_flag e
+    && has_flag_if v (is_name_of_slot LocalAlloc e) local_alloc_inode_flag e
+    && has_flag_if v (is_name_of_slot TruncateLog e) dealloc_inode_flag e
 
 -- an orphan directory is a directory, and every other name is a file's; the entry and the dinode agree
 unfoldable pub has_kind_of_name : Volume → Entry → Bool
 has_kind_of_name v e =
-    if is_name_of_slots OrphanDir all_slots e
+    if is_name_of_slot OrphanDir e
     then is_directory v e.inode && e.file_type == type_of_kind Directory
     else is_file v e.inode && e.file_type == type_of_kind File
 
