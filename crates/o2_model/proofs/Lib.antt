@@ -20,6 +20,7 @@ pub mod SameContents
 pub mod SameAllocators
 pub mod BitPlaces
 pub mod Found
+pub mod Agreeing
 pub mod OwnedBlocks
 pub mod GoodGroups
 pub mod GroupsOwned

@@ -1,5 +1,5 @@
 -- Where nothing fails, blocks that agree on the owned ones have the same system files, groups and inodes.
-use Rattle.std.proofs.Common.{◌≡◌, inl, inr, ⊎_elim, ℕ, Bool, true, false, ◌&&◌, ◌||◌, ◌==◌, List, [], ◌∷◌, ◌++◌, map, refl, sym, ◌∙◌, ap, subst, Option, Some, None}
+use Rattle.std.proofs.Common.{◌≡◌, inl, inr, ⊎_elim, ℕ, Bool, true, false, ◌&&◌, ◌||◌, ◌==◌, List, [], ◌++◌, map, refl, sym, ◌∙◌, ap, subst, Option, Some, None}
 use Rattle.std.specs.Prelude.{flat_map, nat_lt}
 use Rattle.std.specs.List.{list_any, Contains, range_with_len}
 use Rattle.std.specs.Option.{option_map_or}
@@ -24,7 +24,8 @@ use Rattle.o2_model.specs.Agrees.{AgreesOnOwned}
 use Rattle.o2_model.proofs.NothingFails.{no_check_fails}
 use Rattle.o2_model.proofs.SameGroups.{groups_keep}
 use Rattle.o2_model.proofs.SameAllocators.{allocators_same}
-use Rattle.o2_model.proofs.Found.{any_map, any_flat, passing, contains_first, contains_later}
+use Rattle.o2_model.proofs.Found.{any_map, any_flat, passing}
+use Rattle.o2_model.proofs.Agreeing.{any_agree}
 use Rattle.o2_model.proofs.GroupsOwned.{descriptor_owned}
 use Rattle.o2_model.proofs.BitsOwned.{inode_bit_owned}
 use Rattle.o2_model.proofs.SystemOwned.{sysdir_is_inode, sysdir_is_directory, file_is_inode, directory_apart}
@@ -95,10 +96,6 @@ owned_tell_groups v at none agrees =
     groups_keep v at (allocators_same v at (owned_tell_system_files v at none agrees)) (allocator_dinodes v at none agrees) (descriptors_same v at agrees) (links_hold v none)
 
 -- ---- inodes
-any_agree : {A : Type 0} (p q : A → Bool) (xs : List A) → ((x : A) → Contains xs x → p x ≡ q x) → list_any p xs ≡ list_any q xs
-any_agree p q [] same = refl
-any_agree p q (x ∷ xs) same = rw (same x (contains_first x xs), any_agree p q xs (λ y is. same y (contains_later x y xs is))) refl
-
 bit_same : (v : Volume) (at : ℕ → List ℕ) (b : ℕ) → AgreesOnOwned v at → (g : Group) → Contains (groups v) g → (are_inodes g.of.bit_use && is_on_set_bit (over v at) b g) ≡ (are_inodes g.of.bit_use && is_on_set_bit v b g)
 bit_same v at b agrees g is =
     ap (λ bytes. are_inodes g.of.bit_use && option_map_or (λ k. nat_lt 0 k && is_bit_set_in 0x40 bytes k) (bit_of_block v g b) false) (agrees.same g.block (descriptor_owned v g is))
