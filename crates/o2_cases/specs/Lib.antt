@@ -5,7 +5,6 @@ pub mod SmallFiles
 pub mod SmallGroups
 pub mod SmallLogs
 pub mod SmallSlots
-pub mod TinyVolume
-pub mod ChangedVolumes
-pub mod JournalVolume
-pub mod SkeletonVolume
+pub mod WholeInodes
+pub mod WholeVolume
+pub mod BackupVolume

@@ -1,5 +1,6 @@
 -- A small volume with one file.
-use Rattle.std.specs.Prelude.{ℕ, ◌+◌, ◌*◌, ◌^◌, ◌==◌, List, [], ◌∷◌, length, flat_map, if◌then◌else◌}
+use Rattle.std.specs.Prelude.{ℕ, ◌+◌, ◌*◌, ◌^◌, ◌==◌, List, [], ◌∷◌, ◌++◌, length, flat_map, if◌then◌else◌}
+use Rattle.byteorder.specs.Endian.{little_bytes}
 use Rattle.o2_ondisk.specs.Fields.{paste_at, put_at, put_all}
 use Rattle.o2_ondisk.specs.ExtentRecs.{extent_rec_fields, extent_rec_numbers}
 use Rattle.o2_ondisk.specs.declared.extent_rec.ExtentRec.{ExtentRec}
@@ -14,6 +15,10 @@ record_of cpos clusters flags blkno = record { cpos = cpos; size = record { 0 = 
 -- the 16 bytes of a record
 abbrev pub record_bytes : ExtentRec → List ℕ
 record_bytes r = put_all extent_rec_fields (extent_rec_numbers r) (zero_bytes 16)
+
+-- a list of depth 0 with this one record, of 19 that fit
+abbrev pub one_record : ExtentRec → List ℕ
+one_record r = little_bytes 2 0 ++ little_bytes 2 19 ++ little_bytes 2 1 ++ zero_bytes 10 ++ record_bytes r
 
 -- the dinode of a file (i_mode 0o100644) with a list of these records at byte 0xc0, of 19 that fit
 abbrev pub file_bytes : List ExtentRec → List ℕ

@@ -17,9 +17,13 @@ tag_bytes block flags = big_bytes 4 block ++ big_bytes 2 0 ++ big_bytes 2 flags
 abbrev pub identifier : List ℕ
 identifier = 1 ∷ 2 ∷ 3 ∷ 4 ∷ 5 ∷ 6 ∷ 7 ∷ 8 ∷ 9 ∷ 10 ∷ 11 ∷ 12 ∷ 13 ∷ 14 ∷ 15 ∷ 16 ∷ []
 
--- a descriptor with one tag, of block 7, which is the last (8) and without an identifier (2)
+-- a descriptor with one tag, of this block, which is the last (8) and without an identifier (2)
+abbrev pub one_tag_of : ℕ → ℕ → List ℕ
+one_tag_of block sequence = header_bytes descriptor_type sequence ++ tag_bytes block 0xa
+
+-- the same of block 7
 abbrev pub one_tag : ℕ → List ℕ
-one_tag sequence = header_bytes descriptor_type sequence ++ tag_bytes 7 0xa
+one_tag sequence = one_tag_of 7 sequence
 
 -- a descriptor with a tag of block 7 and its identifier, and then the last, of block 8, whose block is escaped (1)
 abbrev pub two_tags : ℕ → List ℕ

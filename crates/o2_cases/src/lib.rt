@@ -1,41 +1,6 @@
 //! Cases of the definitions over whole volumes, computed by the checker.
 #![tactic(auto)]
 
-mod check_cases;
-mod entry_cases;
-mod extent_cases;
-mod failing_cases;
-mod group_cases;
-mod journal_cases;
-mod log_cases;
-mod skeleton_cases;
-mod slot_cases;
-mod super_cases;
-mod volume_cases;
-
-pub use check_cases::{
-    bit_checks_on_cases, chain_checks_on_cases, connection_on_cases, entry_checks_on_cases,
-};
-pub use entry_cases::{entries_on_cases, has_entry_on_cases};
-pub use extent_cases::{
-    bytes_on_cases, headers_on_cases, leaf_records_on_cases, leaves_on_cases,
-    overlapping_records_on_cases,
-};
-pub use failing_cases::failures_on_cases;
-pub use group_cases::{
-    bitmap_groups_on_cases, block_groups_on_cases, chains_on_cases, free_bits_on_cases,
-};
-pub use journal_cases::{dirty_slots_on_cases, journals_on_cases, logged_writes_on_cases};
-pub use log_cases::{bounds_on_cases, tags_on_cases, transactions_on_cases, writes_on_cases};
-pub use skeleton_cases::{
-    broken_skeletons_on_cases, directories_of_skeleton, files_of_skeleton, numbers_of_skeleton,
-    system_entries_on_cases,
-};
-pub use slot_cases::{truncate_logs_on_cases, truncations_on_cases, windows_on_cases};
-pub use super_cases::{
-    cluster_ranges_on_cases, directories_on_cases, first_group_on_cases, group_places_on_cases,
-    sizes_on_cases,
-};
-pub use volume_cases::{
-    claims_of_volume, contents_of_volume, groups_of_volume, inodes_of_volume, tree_of_volume,
-};
+// In a case all definitions are opened, and both sides are computed.
+#[tactic(auto, unfolding(o2_model::specs::Allocators::allocators, o2_model::specs::Allocators::chain_heads, o2_model::specs::Allocators::chains, o2_model::specs::Allocators::is_allocator, o2_model::specs::Allocators::is_sound_chain_header, o2_model::specs::Anchors::anchors_as_logged, o2_model::specs::Anchors::anchors_of, o2_model::specs::Anchors::is_allowed_write, o2_model::specs::Anchors::is_directory_change, o2_model::specs::Anchors::is_journal_change, o2_model::specs::Anchors::is_sound_write, o2_model::specs::Anchors::is_super_change, o2_model::specs::Anchors::log_fault, o2_model::specs::Checks::AllocTotals::has_totals, o2_model::specs::Checks::BackupSuper::is_backup, o2_model::specs::Checks::BlockAllocBit::blocks_in_use, o2_model::specs::Checks::BlockAllocBit::has_bits_of_blocks, o2_model::specs::Checks::ChainBits::has_sums_in_chains, o2_model::specs::Checks::ClusterAllocBit::has_bits_of_claims, o2_model::specs::Checks::DirBlock::is_sound_dir_block, o2_model::specs::Checks::DirentName::is_sound_name, o2_model::specs::Checks::DirentType::has_type_of_inode, o2_model::specs::Checks::DupClusters::is_sole_or_shared, o2_model::specs::Checks::DupClusters::uses_by, o2_model::specs::Checks::Dx::holds_index, o2_model::specs::Checks::EbNext::leaf_blocks, o2_model::specs::Checks::GroupFreeBits::has_free_bits, o2_model::specs::Checks::InodeAllocBit::has_inodes_at_bits, o2_model::specs::Checks::InodeClusters::cluster_total, o2_model::specs::Checks::InodeClusters::has_cluster_total, o2_model::specs::Checks::InodeSize::has_sound_size, o2_model::specs::Checks::Journal::is_sound_journal, o2_model::specs::Checks::MetaBlock::is_sound_metadata_block, o2_model::specs::Checks::NotConnected::is_connected, o2_model::specs::Checks::OrphanEntry::names_orphan, o2_model::specs::Checks::OrphanEntry::orphan_entries, o2_model::specs::Checks::RefCount::has_sound_count, o2_model::specs::Checks::RefCover::is_covering, o2_model::specs::Checks::RefCover::is_shared_evenly, o2_model::specs::Checks::RefCover::tree_references, o2_model::specs::Checks::Root::is_sound_root, o2_model::specs::Checks::SlotMap::is_sound_slot_map, o2_model::specs::Checks::Super::is_sound_super, o2_model::specs::Checks::Sysdir::is_sound_directory, o2_model::specs::Checks::Sysfile::has_flags_of_name, o2_model::specs::Checks::Sysfile::has_kind_of_name, o2_model::specs::Checks::Sysfile::has_system_files, o2_model::specs::Checks::Sysfile::is_sound_system_entry, o2_model::specs::Checks::TruncateLog::is_sound_truncate_log, o2_model::specs::Claims::claims_before_index, o2_model::specs::Claims::claims_of, o2_model::specs::Claims::claims_with_indexes, o2_model::specs::Claims::claims_with_truncations, o2_model::specs::Claims::claims_with_windows, o2_model::specs::Claims::inode_claims, o2_model::specs::Claims::structure_claims, o2_model::specs::Clusters::are_clusters_in_range, o2_model::specs::Contents::byte_in_block, o2_model::specs::Contents::bytes_of, o2_model::specs::Directories::dir_blocks, o2_model::specs::Directories::directory_entries, o2_model::specs::Directories::entries_in, o2_model::specs::Directories::has_entry, o2_model::specs::Directories::own_inodes, o2_model::specs::Dirty::all_committed_writes, o2_model::specs::Dirty::as_logged, o2_model::specs::Dirty::committed_writes, o2_model::specs::Dirty::dirty_slots, o2_model::specs::Dirty::is_journal, o2_model::specs::Dirty::journal_fault, o2_model::specs::Dirty::journal_part_fault, o2_model::specs::Dirty::log_of, o2_model::specs::Dirty::slot_journal, o2_model::specs::Extents::is_extent_block, o2_model::specs::Extents::is_sound_header, o2_model::specs::Extents::is_sound_leaf, o2_model::specs::Extents::names_new_block, o2_model::specs::Extents::records_in_block, o2_model::specs::Extents::with_met, o2_model::specs::Failing::failing, o2_model::specs::Failing::faults, o2_model::specs::Features::unsupported_in, o2_model::specs::Files::attributes_of, o2_model::specs::Groups::group_walk, o2_model::specs::Groups::inodes_of, o2_model::specs::Groups::is_good_group, o2_model::specs::Groups::is_inode, o2_model::specs::Indexes::all_index_blocks, o2_model::specs::Indexes::ends_in_trailer, o2_model::specs::Indexes::index_blocks, o2_model::specs::Indexes::index_clusters, o2_model::specs::Indexes::index_entries, o2_model::specs::Indexes::index_extents, o2_model::specs::Indexes::indexed_directories, o2_model::specs::Indexes::is_index_root, o2_model::specs::Indexes::is_indexed, o2_model::specs::Indexes::is_own_block, o2_model::specs::Indexes::is_sound_index, o2_model::specs::Indexes::is_sound_index_leaf, o2_model::specs::Inodes::extent_lists_of, o2_model::specs::Inodes::extents, o2_model::specs::Inodes::holds_list, o2_model::specs::Inodes::is_directory, o2_model::specs::Inodes::is_file, o2_model::specs::Inodes::is_link, o2_model::specs::Intact::is_intact, o2_model::specs::Intact::is_intact_inode, o2_model::specs::Journals::has_known_features, o2_model::specs::Journals::is_sound_journal_super, o2_model::specs::Journals::journal_blocks, o2_model::specs::Journals::journals, o2_model::specs::Label::label_field, o2_model::specs::Label::with_label, o2_model::specs::Logs::has_log_header, o2_model::specs::Logs::log_blocks, o2_model::specs::Logs::log_in, o2_model::specs::Logs::revokes_of, o2_model::specs::Logs::tags_of, o2_model::specs::Logs::unescaped, o2_model::specs::Metadata::group_with_bit, o2_model::specs::Metadata::has_origin, o2_model::specs::Metadata::list_blocks, o2_model::specs::Metadata::metadata_blocks, o2_model::specs::Metadata::refcount_blocks, o2_model::specs::NameHash::is_ascii_name, o2_model::specs::NameHash::mixed, o2_model::specs::NameHash::name_hash, o2_model::specs::NameHash::with_piece, o2_model::specs::Owned::is_owned, o2_model::specs::Owned::owned_blocks, o2_model::specs::RefcountTrees::inodes_of_tree, o2_model::specs::RefcountTrees::is_refcount_block, o2_model::specs::RefcountTrees::is_sound_refcount, o2_model::specs::RefcountTrees::leaf_list, o2_model::specs::RefcountTrees::refcount_records, o2_model::specs::RefcountTrees::refcount_roots, o2_model::specs::RefcountTrees::refcount_tree_blocks, o2_model::specs::RefcountTrees::refcounts, o2_model::specs::Replay::as_clean, o2_model::specs::Replay::replayed, o2_model::specs::Slots::is_sound_truncate_header, o2_model::specs::Slots::is_sound_truncation, o2_model::specs::Slots::is_sound_window, o2_model::specs::Slots::truncate_records, o2_model::specs::Slots::truncated_clusters, o2_model::specs::Slots::window_clusters, o2_model::specs::Structures::is_discontiguous, o2_model::specs::Structures::unsupported_structure, o2_model::specs::Superblock::has_super, o2_model::specs::Superblock::superblock_bits, o2_model::specs::SystemFiles::required_files, o2_model::specs::SystemFiles::slot_in_name, o2_model::specs::SystemFiles::system_inode, o2_model::specs::SystemFiles::system_name, o2_model::specs::Tree::met_inodes, o2_model::specs::Tree::names_users, o2_model::specs::Tree::tree_entries, o2_model::specs::Tree::tree_walk, o2_model::specs::Volume::is_valid, o2_ondisk::specs::Fields::paste_at, o2_ondisk::specs::Fields::put_at, o2_ondisk::specs::Number::big_number_at, o2_ondisk::specs::Number::number_at))]
+pub mod cases;

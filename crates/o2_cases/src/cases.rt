@@ -1,0 +1,13 @@
+// What the definitions accept and what they refuse, each case the contract of a function that does nothing.
+pub mod allocator_checks;
+pub mod directory_checks;
+pub mod entries;
+pub mod extents;
+pub mod groups;
+pub mod inode_checks;
+pub mod logs;
+pub mod sharing_checks;
+pub mod skeleton_checks;
+pub mod slot_parts;
+pub mod superblocks;
+pub mod volumes;

@@ -1,0 +1,127 @@
+// What is read of a whole volume, and that nothing on it fails.
+ghost use Rattle.std.specs.Prelude.{◌≡◌, [], ◌∷◌, ◌++◌, Some, None, true, false, map, length, codes};
+ghost use Rattle.o2_model.specs.declared.oddity.Oddity.TheVariants.{Attributes, DioOrphan};
+ghost use Rattle.o2_model.specs.declared.system_file.SlotFile.TheVariants.{Journal};
+ghost use Rattle.o2_model.specs.declared.system_file.SystemFile.TheVariants.{GlobalBitmap, Heartbeat, OfSlot};
+ghost use Rattle.o2_model.specs.declared.claim.Owner.TheVariants.{Inode, LocalAlloc, Suballocator, Super, TruncateLog};
+ghost use Rattle.o2_model.specs.SystemFiles.{slot_in_name, system_inode};
+ghost use Rattle.o2_model.specs.Allocators.{allocators};
+ghost use Rattle.o2_model.specs.Groups.{group_walk, groups_of, inodes_of, is_inode};
+ghost use Rattle.o2_model.specs.Inodes.{extent_blocks_of, records_of};
+ghost use Rattle.o2_model.specs.Contents.{content_of};
+ghost use Rattle.o2_model.specs.Contents.Content.{Bytes, Entries, Nothing};
+ghost use Rattle.o2_model.specs.Tree.{link_count, met_inodes, tree_directories, tree_walk};
+ghost use Rattle.o2_model.specs.Files.{links_of, shared_references};
+ghost use Rattle.o2_model.specs.Volume.{dinode};
+ghost use Rattle.o2_model.specs.RefcountTrees.{inodes_of_tree, refcount_roots, refcount_tree_blocks};
+ghost use Rattle.o2_model.specs.Metadata.{metadata_blocks};
+ghost use Rattle.o2_model.specs.Claims.{claims_by, claims_of, owner_in, structure_claims};
+ghost use Rattle.o2_model.specs.Owned.{is_owned, owned_blocks};
+ghost use Rattle.o2_model.specs.Structures.{unsupported_structure};
+ghost use Rattle.o2_model.specs.Failing.{failing};
+ghost use Rattle.o2_cases.specs.SmallFiles.{record_of};
+ghost use Rattle.o2_cases.specs.WholeVolume.{whole, with_number};
+
+/// A law: nothing fails on the whole volume, and it has no structure outside the profile.
+pub fn whole_volume_is_sound()
+    ensures none_fails { failing whole ≡ [] }
+    ensures supported { unsupported_structure whole ≡ None }
+{}
+
+/// A law: an inode with attributes (HAS_XATTR), and an orphan of a direct write (DIO_ORPHANED), are outside the profile.
+pub fn odd_inodes_on_cases()
+    ensures attributes { unsupported_structure (with_number 30 0x76 2 0x12) ≡ Some (Attributes, 30) }
+    ensures direct_write { unsupported_structure (with_number 32 0x2c 4 0x2005) ≡ Some (DioOrphan, 32) }
+{}
+
+/// A law: the system directory names the files, and the chains of the allocators lead to their groups.
+pub fn groups_of_whole()
+    ensures named { system_inode whole GlobalBitmap ≡ Some 19 }
+    ensures not_named { system_inode whole Heartbeat ≡ None }
+    ensures allocators { map (λ a. a.block) (allocators whole) ≡ 19 ∷ 20 ∷ 23 ∷ 24 ∷ [] }
+    ensures groups { map (λ g. g.block) (group_walk whole).groups ≡ 8 ∷ 16 ∷ 40 ∷ [] }
+    ensures of_inodes { map (λ g. g.bits) (groups_of whole 20) ≡ 24 ∷ [] }
+    ensures of_none { groups_of whole 24 ≡ [] }
+{}
+
+/// A law: the four digits of a name tell the slot; three of them, or a letter among them, tell none.
+pub fn slots_in_names_on_cases()
+    ensures first { slot_in_name Journal (codes "journal:0000") ≡ Some 0 }
+    ensures large { slot_in_name Journal (codes "journal:9127") ≡ Some 9127 }
+    ensures three_digits { slot_in_name Journal (codes "journal:127") ≡ None }
+    ensures letter { slot_in_name Journal (codes "journal:01x7") ≡ None }
+    ensures another_file { slot_in_name Journal (codes "inode_alloc:0000") ≡ None }
+{}
+
+/// A law: the inodes are the valid dinodes on set bits. The block of the group, also on a set bit, is none.
+pub fn inodes_of_whole()
+    ensures inodes { inodes_of whole
+        ≡ 17 ∷ 18 ∷ 19 ∷ 20 ∷ 21 ∷ 22 ∷ 23 ∷ 24 ∷ 25 ∷ 26 ∷ 27 ∷ 28 ∷ 29 ∷ 30 ∷ 31 ∷ 32 ∷ 33 ∷ [] }
+    ensures group { is_inode whole 16 ≡ false }
+    ensures clear { is_inode whole 34 ≡ false }
+    ensures another_generation { is_inode (with_number 29 0x60 4 6) 29 ≡ false }
+{}
+
+/// A law: a file whose list is in an extent block has the two records there, and one whose text is in the dinode has none.
+pub fn extents_of_whole()
+    ensures records { records_of whole 29 ≡ record_of 0 1 0 80 ∷ record_of 2 1 0 104 ∷ [] }
+    ensures blocks { extent_blocks_of whole 29 ≡ 41 ∷ [] }
+    ensures no_records { records_of whole 33 ≡ [] }
+{}
+
+/// A law: a file has its bytes, a link its text, a directory its live entries.
+pub fn contents_of_whole()
+    ensures file { content_of whole 30 ≡ Bytes (codes "hello") }
+    ensures link { content_of whole 33 ≡ Bytes (codes "f") }
+    ensures directory { content_of whole 28 ≡ Entries ((28, 2, codes ".") ∷ (18, 2, codes "..") ∷ (29, 1, codes "h") ∷ []) }
+    ensures fifo { content_of (with_number 30 0x28 2 0o10644) 30 ≡ Nothing }
+{}
+
+/// A law: the walk of the tree meets the root, what it names, and then what its directory names. A file with two names is met
+/// twice; an orphan is not met.
+pub fn tree_of_whole()
+    ensures names { (tree_walk whole).names
+        ≡ ([], 18) ∷ (codes "d" ∷ [], 28) ∷ (codes "f" ∷ [], 29) ∷ (codes "a" ∷ [], 30) ∷ (codes "b" ∷ [], 31)
+        ∷ (codes "l" ∷ [], 33) ∷ (codes "d" ∷ codes "h" ∷ [], 29) ∷ [] }
+    ensures directories { tree_directories whole ≡ 18 ∷ 28 ∷ [] }
+    ensures once { (tree_walk whole).faults ≡ [] }
+    ensures met { met_inodes whole ≡ 18 ∷ 28 ∷ 29 ∷ 30 ∷ 31 ∷ 33 ∷ [] }
+    ensures links { link_count whole 29 ≡ 2 }
+    ensures told { links_of (dinode whole 29) ≡ 2 }
+{}
+
+/// A law: two files share a cluster by one refcount tree, whose root is the only block of it.
+pub fn sharing_of_whole()
+    ensures roots { refcount_roots whole ≡ 42 ∷ [] }
+    ensures inodes { inodes_of_tree whole 42 ≡ 30 ∷ 31 ∷ [] }
+    ensures blocks { refcount_tree_blocks whole 42 ≡ 42 ∷ [] }
+    ensures metadata { metadata_blocks whole ≡ 41 ∷ 42 ∷ [] }
+    ensures shared { shared_references whole 31 ≡ 11 ∷ [] }
+    ensures not_shared { shared_references whole 29 ≡ [] }
+{}
+
+/// A law: who claims the clusters.
+pub fn claims_of_whole()
+    ensures structures { structure_claims whole
+        ≡ claims_by Super (0 ∷ 1 ∷ []) ++ claims_by (Suballocator 20) (2 ∷ 3 ∷ 4 ∷ []) ++ claims_by (Suballocator 23) (5 ∷ []) }
+    ensures claims { claims_of whole
+        ≡ claims_by Super (0 ∷ 1 ∷ []) ++ claims_by (Suballocator 20) (2 ∷ 3 ∷ 4 ∷ []) ++ claims_by (Suballocator 23) (5 ∷ [])
+        ++ claims_by (Inode 21) (6 ∷ []) ++ claims_by (Inode 25) (7 ∷ []) ++ claims_by (Inode 28) (9 ∷ [])
+        ++ claims_by (Inode 29) (10 ∷ 13 ∷ []) ++ claims_by (Inode 30) (11 ∷ []) ++ claims_by (Inode 31) (11 ∷ []) ++ claims_by (Inode 32) (8 ∷ [])
+        ++ claims_by (LocalAlloc 0) (14 ∷ []) ++ claims_by (TruncateLog 0) (12 ∷ []) }
+    ensures first { owner_in (claims_of whole) 11 ≡ Some (Inode 30) }
+    ensures free { owner_in (claims_of whole) 15 ≡ None }
+{}
+
+/// A law: the blocks that carry meaning are those of claimed clusters, without windows and truncate records, and of a journal the
+/// first alone.
+pub fn owned_blocks_of_whole()
+    ensures super_block { is_owned whole 2 ≡ true }
+    ensures first_of_journal { is_owned whole 56 ≡ true }
+    ensures second_of_journal { is_owned whole 57 ≡ false }
+    ensures data { is_owned whole 104 ≡ true }
+    ensures truncated { is_owned whole 96 ≡ false }
+    ensures window { is_owned whole 112 ≡ false }
+    ensures free { is_owned whole 120 ≡ false }
+    ensures count { length (owned_blocks whole) ≡ 97 }
+{}
