@@ -8,3 +8,5 @@ pub mod SmallSlots
 pub mod WholeInodes
 pub mod WholeVolume
 pub mod BackupVolume
+pub mod DirtyVolume
+pub mod WholeImages

@@ -4,14 +4,14 @@
 --     1 bitmap's group    5 extent blocks     9 directory 28    13 file 29
 --     2 inodes           6 slot map         10 file 29         14 window, free
 --     3 (inodes)          7 journal          11 files 30, 31    15 free
-use Rattle.std.specs.Prelude.{ℕ, ◌+◌, ◌-◌, ◌==◌, List, [], ◌∷◌, ◌++◌, codes, length, replicate, if◌then◌else◌}
+use Rattle.std.specs.Prelude.{ℕ, ◌+◌, ◌-◌, ◌==◌, List, [], ◌∷◌, ◌++◌, codes, length, nat_lt, replicate, if◌then◌else◌}
 use Rattle.byteorder.specs.Endian.{little_bytes, big_bytes}
 use Rattle.o2_ondisk.specs.Fields.{put_at, put_all}
 use Rattle.o2_ondisk.specs.Signatures.{superblock_signature, group_signature, extent_block_signature, dx_root_signature, refcount_block_signature, dir_trailer_signature}
 use Rattle.o2_ondisk.specs.GroupDescs.{group_desc_fields, group_desc_numbers}
 use Rattle.o2_ondisk.specs.declared.group_desc.GroupDesc.{GroupDesc}
 use Rattle.o2_model.specs.declared.geo.Geo.{Geo}
-use Rattle.o2_model.specs.Volume.{Volume, over}
+use Rattle.o2_model.specs.Volume.{Volume}
 use Rattle.o2_cases.specs.SmallBytes.{zero_bytes}
 use Rattle.o2_cases.specs.SmallEntries.{dots, named_bytes}
 use Rattle.o2_cases.specs.SmallFiles.{one_record, record_of, record_bytes}
@@ -134,6 +134,10 @@ whole_block b =
 abbrev pub filled : List ℕ → List ℕ
 filled bytes = bytes ++ replicate (512 - length bytes) 0
 
+-- the blocks of a device of 128, each filled up; behind the last there are zeros
+unfoldable pub on_device : (ℕ → List ℕ) → ℕ → List ℕ
+on_device blocks b = filled (if nat_lt b 128 then blocks b else [])
+
 abbrev pub whole_geo : Geo
 whole_geo = record {
   block_bits = 9;
@@ -149,10 +153,17 @@ whole_geo = record {
   seed = record { first = 1; second = 2; third = 3 };
 }
 
-abbrev pub whole : Volume
-whole = record { geo = whole_geo; at = λ b. filled (whole_block b); on_device = 128 }
+-- the volume with these blocks, of 16 clusters
+abbrev pub volume_with : (ℕ → List ℕ) → Volume
+volume_with blocks = record { geo = whole_geo; at = on_device blocks; on_device = 128 }
 
--- the volume with this number of `width` bytes at this place of this block
+abbrev pub whole : Volume
+whole = volume_with whole_block
+
+-- these blocks with this number of `width` bytes at this place of one of them
+abbrev pub with_number_at : ℕ → ℕ → ℕ → ℕ → (ℕ → List ℕ) → ℕ → List ℕ
+with_number_at block at width number blocks b = if b == block then put_at at width number (filled (blocks b)) else blocks b
+
+-- the whole volume with this number there
 abbrev pub with_number : ℕ → ℕ → ℕ → ℕ → Volume
-with_number block at width number =
-    over whole (λ b. if b == block then put_at at width number (filled (whole_block b)) else filled (whole_block b))
+with_number block at width number = volume_with (with_number_at block at width number whole_block)

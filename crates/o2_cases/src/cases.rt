@@ -6,6 +6,7 @@ pub mod extents;
 pub mod groups;
 pub mod inode_checks;
 pub mod logs;
+pub mod replays;
 pub mod sharing_checks;
 pub mod skeleton_checks;
 pub mod slot_parts;
