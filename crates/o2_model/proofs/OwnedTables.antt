@@ -63,7 +63,7 @@ slots_inode v b none h =
     let s = passing (λ slot. is_of b (slot_allocators v slot)) (slots v) (sym (any_flat (λ a. b == a.block) (slot_allocators v) (slots v)) ∙ h) in
     slot_inode v b s.item none s.passes
 
-allocator_is_inode : (v : Volume) (b : ℕ) → failing v ≡ [] → is_of b (allocators v) ≡ true → is_inode v b ≡ true
+pub allocator_is_inode : (v : Volume) (b : ℕ) → failing v ≡ [] → is_of b (allocators v) ≡ true → is_inode v b ≡ true
 unfolding allocators
 allocator_is_inode v b none h =
     let bitmap = allocator_named v Clusters no_slot GlobalBitmap in

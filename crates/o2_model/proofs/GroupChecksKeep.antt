@@ -1,0 +1,102 @@
+-- Where nothing fails, blocks that agree on the owned ones have the same allocators, and the checks of allocators, groups and bits
+-- fail where they fail on the volume.
+use Rattle.std.proofs.Common.{◌≡◌, inl, inr, ℕ, Bool, true, false, not, ◌&&◌, ◌||◌, ◌==◌, List, [], map, refl, sym, ◌∙◌, ap, Option, Some, None}
+use Rattle.std.specs.Prelude.{filter, count_by, sum_by}
+use Rattle.std.specs.List.{Contains, range_with_len, list_all, enumerate_from}
+use Rattle.std.specs.Option.{option_map_or}
+use Rattle.std.proofs.lemmas.Bool.{eq-eqb}
+use Rattle.o2_model.specs.declared.check.Check.TheVariants as check
+use Rattle.o2_model.specs.declared.allocator.Allocator.{Allocator}
+use Rattle.o2_model.specs.declared.allocator.Group.{Group}
+use Rattle.o2_ondisk.specs.declared.chain_rec.ChainRec.{ChainRec}
+use Rattle.o2_model.specs.Words.{among, those_not, fails_at, fails_unless}
+use Rattle.o2_model.specs.Orders.{from_to}
+use Rattle.o2_model.specs.Volume.{Volume, over, dinode}
+use Rattle.o2_model.specs.Allocators.{are_inodes, allocators, is_sound_chain_header, chains}
+use Rattle.o2_model.specs.Groups.{GroupWalk, group_desc, is_bit_set, block_of_bit, is_of_clusters, is_inode, inodes_of, group_walk, groups, groups_of}
+use Rattle.o2_model.specs.Metadata.{group_with_bit, is_origin, has_origin, inode_origin}
+use Rattle.o2_model.specs.Checks.GroupMissing.{bitmap_places, is_reached}
+use Rattle.o2_model.specs.Checks.InodeAllocBit.{has_inodes_at_bits}
+use Rattle.o2_model.specs.Checks.InodeSuballoc.{inode_suballoc_faults}
+use Rattle.o2_model.specs.Checks.GroupFreeBits.{has_free_bits}
+use Rattle.o2_model.specs.Checks.ChainBits.{groups_in_chain, has_sums, has_sums_in_chains}
+use Rattle.o2_model.specs.Checks.AllocTotals.{has_totals}
+use Rattle.o2_model.specs.Failing.{faults, failing}
+use Rattle.o2_model.specs.Agrees.{AgreesOnOwned}
+use Rattle.o2_model.proofs.SameAllocators.{allocators_same}
+use Rattle.o2_model.proofs.Agreeing.{all_agree, count_by_agree, sum_by_agree, fails_agree, flat_map_agree}
+use Rattle.o2_model.proofs.Found.{found}
+use Rattle.o2_model.proofs.GroupsOwned.{descriptor_owned}
+use Rattle.o2_model.proofs.OwnedTells.{dinode_same}
+use Rattle.o2_model.proofs.OwnedTables.{allocator_is_inode, owned_tell_system_files, owned_tell_groups, owned_tell_inode, owned_tell_inodes}
+
+-- ---- allocators
+pub owned_tell_allocators : (v : Volume) (at : ℕ → List ℕ) → failing v ≡ [] → AgreesOnOwned v at → allocators (over v at) ≡ allocators v
+owned_tell_allocators v at none agrees = allocators_same v at (owned_tell_system_files v at none agrees)
+
+allocator_dinode : (v : Volume) (at : ℕ → List ℕ) (a : Allocator) → failing v ≡ [] → AgreesOnOwned v at → Contains (allocators v) a → at a.block ≡ v.at a.block
+allocator_dinode v at a none agrees is =
+    dinode_same v at a.block agrees (allocator_is_inode v a.block none (found (λ x. a.block == x.block) (allocators v) a is (eq-eqb a.block a.block refl)))
+
+descriptor_same : (v : Volume) (at : ℕ → List ℕ) (g : Group) → AgreesOnOwned v at → Contains (groups v) g → at g.block ≡ v.at g.block
+descriptor_same v at g agrees is = agrees.same g.block (descriptor_owned v g is)
+
+header_same : (v : Volume) (at : ℕ → List ℕ) (a : Allocator) → at a.block ≡ v.at a.block → is_sound_chain_header (over v at) a ≡ is_sound_chain_header v a
+unfolding is_sound_chain_header
+header_same v at a same = rw same refl
+
+-- of allocators: a check that judges each the same fails at the same ones
+each_allocator : (v : Volume) (at : ℕ → List ℕ) (holds : Volume → Allocator → Bool) → failing v ≡ [] → AgreesOnOwned v at
+    → ((a : Allocator) → at a.block ≡ v.at a.block → holds (over v at) a ≡ holds v a)
+    → fails_at (λ a. a.block) (holds (over v at)) (allocators (over v at)) ≡ fails_at (λ a. a.block) (holds v) (allocators v)
+each_allocator v at holds none agrees same =
+    ap (fails_at (λ a. a.block) (holds (over v at))) (owned_tell_allocators v at none agrees)
+    ∙ fails_agree (λ a. a.block) (holds (over v at)) (holds v) (allocators v) (λ a is. same a (allocator_dinode v at a none agrees is))
+
+pub keeps_ChainHeader : (v : Volume) (at : ℕ → List ℕ) → failing v ≡ [] → AgreesOnOwned v at → faults (over v at) check.ChainHeader ≡ faults v check.ChainHeader
+unfolding faults
+keeps_ChainHeader v at none agrees = each_allocator v at is_sound_chain_header none agrees (header_same v at)
+
+pub keeps_ChainLink : (v : Volume) (at : ℕ → List ℕ) → failing v ≡ [] → AgreesOnOwned v at → faults (over v at) check.ChainLink ≡ faults v check.ChainLink
+unfolding faults
+keeps_ChainLink v at none agrees = ap (λ w. w.faults) (owned_tell_groups v at none agrees)
+
+pub keeps_GroupMissing : (v : Volume) (at : ℕ → List ℕ) → failing v ≡ [] → AgreesOnOwned v at → faults (over v at) check.GroupMissing ≡ faults v check.GroupMissing
+unfolding faults
+keeps_GroupMissing v at none agrees =
+    ap (λ w. those_not (λ b. among (map (λ g. g.block) (filter is_of_clusters w.groups)) b) (bitmap_places v)) (owned_tell_groups v at none agrees)
+
+-- ---- groups
+-- of groups of some use: a check that judges each the same fails at the same ones
+each_group : (v : Volume) (at : ℕ → List ℕ) (holds : Volume → Group → Bool) → failing v ≡ [] → AgreesOnOwned v at
+    → ((g : Group) → at g.block ≡ v.at g.block → holds (over v at) g ≡ holds v g)
+    → fails_at (λ g. g.block) (holds (over v at)) (groups (over v at)) ≡ fails_at (λ g. g.block) (holds v) (groups v)
+each_group v at holds none agrees same =
+    ap (λ w. fails_at (λ g. g.block) (holds (over v at)) w.groups) (owned_tell_groups v at none agrees)
+    ∙ fails_agree (λ g. g.block) (holds (over v at)) (holds v) (groups v) (λ g is. same g (descriptor_same v at g agrees is))
+
+pub keeps_GroupChain : (v : Volume) (at : ℕ → List ℕ) → failing v ≡ [] → AgreesOnOwned v at → faults (over v at) check.GroupChain ≡ faults v check.GroupChain
+unfolding faults
+keeps_GroupChain v at none agrees = each_group v at (λ u g. (group_desc u g.block).chain == g.chain) none agrees (λ g same. rw same refl)
+
+free_same : (v : Volume) (at : ℕ → List ℕ) (g : Group) → at g.block ≡ v.at g.block → has_free_bits (over v at) g ≡ has_free_bits v g
+unfolding has_free_bits
+free_same v at g same = rw same refl
+
+pub keeps_GroupFreeBits : (v : Volume) (at : ℕ → List ℕ) → failing v ≡ [] → AgreesOnOwned v at → faults (over v at) check.GroupFreeBits ≡ faults v check.GroupFreeBits
+unfolding faults
+keeps_GroupFreeBits v at none agrees = each_group v at has_free_bits none agrees (free_same v at)
+
+-- ---- sums over groups
+chains_same : (v : Volume) (at : ℕ → List ℕ) (a : Allocator) → at a.block ≡ v.at a.block → chains (over v at) a ≡ chains v a
+unfolding chains
+chains_same v at a same = rw (header_same v at a same, same) refl
+
+totals_same : (v : Volume) (at : ℕ → List ℕ) (a : Allocator) → at a.block ≡ v.at a.block → has_totals (over v at) a ≡ has_totals v a
+unfolding has_totals
+totals_same v at a same = rw (chains_same v at a same, same) refl
+
+pub keeps_AllocTotals : (v : Volume) (at : ℕ → List ℕ) → failing v ≡ [] → AgreesOnOwned v at → faults (over v at) check.AllocTotals ≡ faults v check.AllocTotals
+unfolding faults
+keeps_AllocTotals v at none agrees = each_allocator v at has_totals none agrees (totals_same v at)
+
