@@ -34,3 +34,4 @@ pub mod OwnedTree
 pub mod OwnedFiles
 pub mod OwnedImages
 pub mod GroupChecksKeep
+pub mod JournalsKeep
