@@ -158,7 +158,7 @@ origin_same : (v : Volume) (at : ℕ → List ℕ) (b : ℕ) → failing v ≡ [
 unfolding has_origin
 origin_same v at b none agrees same = rw (owned_tell_group_with_bit v at are_inodes b none agrees, same) refl
 
-inode_is : (v : Volume) (b : ℕ) → Contains (inodes_of v) b → is_inode v b ≡ true
+pub inode_is : (v : Volume) (b : ℕ) → Contains (inodes_of v) b → is_inode v b ≡ true
 unfolding inodes_of
 inode_is v b is = (filter_contains (is_inode v) (range_with_len 0 (blocks v)) b is).1
 

@@ -26,7 +26,7 @@ use Rattle.o2_model.specs.Failing.{faults, failing}
 use Rattle.o2_model.specs.Owned.{is_owned}
 use Rattle.o2_model.specs.Agrees.{AgreesOnOwned}
 use Rattle.o2_model.proofs.SameAllocators.{inode_same}
-use Rattle.o2_model.proofs.Agreeing.{map_agree, flat_map_agree, filter_agree_on, fails_agree}
+use Rattle.o2_model.proofs.Agreeing.{map_agree, flat_map_agree, filter_agree_on, fails_agree, option_agree}
 use Rattle.o2_model.proofs.Found.{found}
 use Rattle.o2_model.proofs.Readings.{faults_of_own_list}
 use Rattle.o2_model.proofs.DataOwned.{mapped_owned, data_mapped}
@@ -68,14 +68,10 @@ unfolding journal_blocks
 first_owned v i b is first =
     mapped_owned v i b is (or_right _ _ (ap (λ o. option_map_or (λ c. c == b) o false) first ∙ eq-eqb b b refl)) (data_mapped v i b (first_among (journal_blocks v i) b first))
 
-bytes_at_same : (v : Volume) (at : ℕ → List ℕ) (o : Option ℕ) → ((b : ℕ) → o ≡ Some b → at b ≡ v.at b) → option_map_or at o [] ≡ option_map_or v.at o []
-bytes_at_same v at None same = refl
-bytes_at_same v at (Some b) same = same b refl
-
 superblock_bytes_same : (v : Volume) (at : ℕ → List ℕ) (b : ℕ) → failing v ≡ [] → AgreesOnOwned v at → is_inode v b ≡ true → journal_block (over v at) b 0 ≡ journal_block v b 0
 superblock_bytes_same v at b none agrees is =
     ap (λ bs. option_map_or at (slice_get bs 0) []) (blocks_same v at b (owned_tell_extents v at b none agrees is))
-    ∙ bytes_at_same v at (slice_get (journal_blocks v b) 0) (λ c first. agrees.same c (first_owned v b c is first))
+    ∙ option_agree at v.at [] (slice_get (journal_blocks v b) 0) (λ c first. agrees.same c (first_owned v b c is first))
 
 pub owned_tell_journal_super : (v : Volume) (at : ℕ → List ℕ) (b : ℕ) → failing v ≡ [] → AgreesOnOwned v at → is_inode v b ≡ true → journal_super (over v at) b ≡ journal_super v b
 owned_tell_journal_super v at b none agrees is = ap journal_super_of (superblock_bytes_same v at b none agrees is)
@@ -137,15 +133,11 @@ unfolding dirty_slots
 owned_tell_dirty v at none agrees = filter_agree_on (is_dirty_slot (over v at)) (is_dirty_slot v) (slots v) (λ slot is. dirty_same v at slot none agrees)
 
 -- ---- their lengths
-length_by : (v : Volume) (at : ℕ → List ℕ) (o : Option ℕ) → ((b : ℕ) → o ≡ Some b → extents (over v at) b ≡ extents v b)
-    → option_map_or (λ b. sum_by leaf_clusters (leaf_records (over v at) b)) o 0 ≡ option_map_or (λ b. sum_by leaf_clusters (leaf_records v b)) o 0
-length_by v at None same = refl
-length_by v at (Some b) same = ap (λ t. sum_by leaf_clusters t.leaves) (same b refl)
-
 length_same : (v : Volume) (at : ℕ → List ℕ) (slot : ℕ) → failing v ≡ [] → AgreesOnOwned v at → journal_length (over v at) slot ≡ journal_length v slot
 length_same v at slot none agrees =
     ap (λ o. option_map_or (λ b. sum_by leaf_clusters (leaf_records (over v at) b)) o 0) (named_same v at slot none agrees)
-    ∙ length_by v at (named_journal v slot) (λ b named. owned_tell_extents v at b none agrees (named_is_inode v slot b none named))
+    ∙ option_agree (λ b. sum_by leaf_clusters (leaf_records (over v at) b)) (λ b. sum_by leaf_clusters (leaf_records v b)) 0 (named_journal v slot)
+    (λ b named. ap (λ t. sum_by leaf_clusters t.leaves) (owned_tell_extents v at b none agrees (named_is_inode v slot b none named)))
 
 pub owned_tell_journal_lengths : (v : Volume) (at : ℕ → List ℕ) → failing v ≡ [] → AgreesOnOwned v at → map (journal_length (over v at)) (slots v) ≡ map (journal_length v) (slots v)
 owned_tell_journal_lengths v at none agrees = map_agree (journal_length (over v at)) (journal_length v) (slots v) (λ slot is. length_same v at slot none agrees)

@@ -35,3 +35,4 @@ pub mod OwnedFiles
 pub mod OwnedImages
 pub mod GroupChecksKeep
 pub mod JournalsKeep
+pub mod OdditiesKeep
