@@ -36,3 +36,4 @@ pub mod OwnedImages
 pub mod GroupChecksKeep
 pub mod JournalsKeep
 pub mod OdditiesKeep
+pub mod SkeletonKeeps

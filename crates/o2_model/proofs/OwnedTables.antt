@@ -105,7 +105,7 @@ bits_same v at b none agrees =
     ap (λ w. list_any (λ g. are_inodes g.of.bit_use && is_on_set_bit (over v at) b g) w.groups) (owned_tell_groups v at none agrees)
     ∙ any_agree (λ g. are_inodes g.of.bit_use && is_on_set_bit (over v at) b g) (λ g. are_inodes g.of.bit_use && is_on_set_bit v b g) (groups v) (bit_same v at b agrees)
 
-valid_same : (v : Volume) (at : ℕ → List ℕ) (b : ℕ) → at b ≡ v.at b → is_valid (over v at) b ≡ is_valid v b
+pub valid_same : (v : Volume) (at : ℕ → List ℕ) (b : ℕ) → at b ≡ v.at b → is_valid (over v at) b ≡ is_valid v b
 unfolding is_valid
 valid_same v at b same = rw same refl
 
