@@ -52,6 +52,7 @@ option_agree f g none (Some x) same = same x refl
 
 -- what a filter leaves is of the list, and passes
 pub filter_contains : {A : Type 0} (q : A → Bool) (xs : List A) (x : A) → Contains (filter q xs) x → Contains xs x × (q x ≡ true)
-filter_contains q xs x is =
-    (All-contains (Contains xs) (filter q xs) x (All-filter q (Contains xs) xs (All-contains_itself xs)) is,
-    All-contains (λ y. q y ≡ true) (filter q xs) x (filter_passes q xs) is)
+filter_contains q xs x is = (
+  All-contains (Contains xs) (filter q xs) x (All-filter q (Contains xs) xs (All-contains_itself xs)) is,
+  All-contains (λ y. q y ≡ true) (filter q xs) x (filter_passes q xs) is,
+)

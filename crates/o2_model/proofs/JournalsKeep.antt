@@ -1,13 +1,12 @@
 -- Where nothing fails, blocks that agree on the owned ones have the same journals: their names, extents and superblocks, the checks
 -- of them, and the slots that are dirty.
 use Rattle.std.proofs.Common.{◌≡◌, inl, inr, ℕ, Bool, true, false, not, ◌==◌, List, [], ◌∷◌, refl, sym, ◌∙◌, ap, Option, Some, None}
-use Rattle.std.specs.Prelude.{filter, flat_map, map, sum_by, slice_get, option_and_then}
+use Rattle.std.specs.Prelude.{flat_map, map, sum_by, slice_get, option_and_then}
 use Rattle.std.specs.List.{Contains}
 use Rattle.std.specs.Option.{option_map_or}
 use Rattle.std.proofs.lemmas.Bool.{cases_Bool, or_left, or_right, eq-eqb}
 use Rattle.o2_ondisk.specs.JournalSupers.{journal_super_of}
 use Rattle.o2_model.specs.declared.check.Check.TheVariants as check
-use Rattle.o2_model.specs.declared.claim.Owner.TheVariants.{Inode}
 use Rattle.o2_model.specs.declared.system_file.SlotFile.TheVariants.{Journal}
 use Rattle.o2_model.specs.declared.system_file.SystemFile.TheVariants.{OfSlot}
 use Rattle.o2_model.specs.Words.{among, fails_at}
@@ -47,8 +46,8 @@ owned_tell_journals v at none agrees =
     flat_map_agree (λ slot. option_map_or (λ b. b ∷ []) (named_journal (over v at) slot) []) (λ slot. option_map_or (λ b. b ∷ []) (named_journal v slot) []) (slots v)
     (λ slot is. ap (λ o. option_map_or (λ b. b ∷ []) o []) (named_same v at slot none agrees))
 
-listed_is_inode : (v : Volume) (b : ℕ) → failing v ≡ [] → Contains (journals v) b → is_inode v b ≡ true
-listed_is_inode v b none is = journal_is_inode v b none (found (λ m. b == m) (journals v) b is (eq-eqb b b refl))
+listed_journal_is_inode : (v : Volume) (b : ℕ) → failing v ≡ [] → Contains (journals v) b → is_inode v b ≡ true
+listed_journal_is_inode v b none is = journal_is_inode v b none (found (λ m. b == m) (journals v) b is (eq-eqb b b refl))
 
 -- ---- their first blocks
 pub extent_faults_same : (v : Volume) (at : ℕ → List ℕ) (b : ℕ) → extents (over v at) b ≡ extents v b → extent_faults (over v at) b ≡ extent_faults v b
@@ -63,15 +62,15 @@ first_among [] b is = cc
 first_among (c ∷ cs) b is = or_left _ _ (eq-eqb b c (let e : c ≡ b = cc in sym e))
 
 -- the first block of a journal's clusters is needed
-first_owned : (v : Volume) (i b : ℕ) → is_inode v i ≡ true → slice_get (journal_blocks v i) 0 ≡ Some b → is_owned v b ≡ true
+first_block_owned : (v : Volume) (i b : ℕ) → is_inode v i ≡ true → slice_get (journal_blocks v i) 0 ≡ Some b → is_owned v b ≡ true
 unfolding journal_blocks
-first_owned v i b is first =
+first_block_owned v i b is first =
     mapped_owned v i b is (or_right _ _ (ap (λ o. option_map_or (λ c. c == b) o false) first ∙ eq-eqb b b refl)) (data_mapped v i b (first_among (journal_blocks v i) b first))
 
 superblock_bytes_same : (v : Volume) (at : ℕ → List ℕ) (b : ℕ) → failing v ≡ [] → AgreesOnOwned v at → is_inode v b ≡ true → journal_block (over v at) b 0 ≡ journal_block v b 0
 superblock_bytes_same v at b none agrees is =
     ap (λ bs. option_map_or at (slice_get bs 0) []) (blocks_same v at b (owned_tell_extents v at b none agrees is))
-    ∙ option_agree at v.at [] (slice_get (journal_blocks v b) 0) (λ c first. agrees.same c (first_owned v b c is first))
+    ∙ option_agree at v.at [] (slice_get (journal_blocks v b) 0) (λ c first. agrees.same c (first_block_owned v b c is first))
 
 pub owned_tell_journal_super : (v : Volume) (at : ℕ → List ℕ) (b : ℕ) → failing v ≡ [] → AgreesOnOwned v at → is_inode v b ≡ true → journal_super (over v at) b ≡ journal_super v b
 owned_tell_journal_super v at b none agrees is = ap journal_super_of (superblock_bytes_same v at b none agrees is)
@@ -98,7 +97,7 @@ each_journal : (v : Volume) (at : ℕ → List ℕ) (holds : Volume → ℕ → 
     → fails_at (λ b. b) (holds (over v at)) (journals (over v at)) ≡ fails_at (λ b. b) (holds v) (journals v)
 each_journal v at holds none agrees same =
     ap (fails_at (λ b. b) (holds (over v at))) (owned_tell_journals v at none agrees)
-    ∙ fails_agree (λ b. b) (holds (over v at)) (holds v) (journals v) (λ b is. same b (listed_is_inode v b none is))
+    ∙ fails_agree (λ b. b) (holds (over v at)) (holds v) (journals v) (λ b is. same b (listed_journal_is_inode v b none is))
 
 pub keeps_Journal : (v : Volume) (at : ℕ → List ℕ) → failing v ≡ [] → AgreesOnOwned v at → faults (over v at) check.Journal ≡ faults v check.Journal
 unfolding faults

@@ -1,8 +1,7 @@
 -- Where nothing fails, blocks that agree on the owned ones keep the checks of the root, the system directory, its files and the slot
 -- map.
-use Rattle.std.proofs.Common.{◌≡◌, inl, inr, ℕ, Bool, true, false, not, ◌&&◌, ◌||◌, ◌==◌, List, [], ◌∷◌, ◌++◌, map, refl, sym, ◌∙◌, ap, Option, Some, None}
+use Rattle.std.proofs.Common.{◌≡◌, inl, inr, ℕ, Bool, true, false, not, ◌&&◌, ◌==◌, List, [], ◌++◌, map, refl, ◌∙◌, ap, Option, Some, None}
 use Rattle.std.specs.Prelude.{filter}
-use Rattle.std.specs.List.{list_all}
 use Rattle.std.specs.Option.{option_map_or}
 use Rattle.std.proofs.lemmas.Bool.{cases_Bool}
 use Rattle.o2_ondisk.specs.declared.kind.Kind.{Kind}
@@ -12,11 +11,10 @@ use Rattle.o2_model.specs.declared.system_file.SystemFile.TheVariants.{SlotMap}
 use Rattle.o2_model.specs.Words.{fails_unless, fails_at}
 use Rattle.o2_model.specs.Orders.{later_like, is_none_of}
 use Rattle.o2_model.specs.Volume.{Volume, over, is_valid}
-use Rattle.o2_model.specs.Inodes.{kind, is_directory, is_file, is_inline, is_fast_link, extents, leaf_records}
-use Rattle.o2_model.specs.Directories.{Entry, DirBlock, dir_blocks, entries_of_block, directory_entries, is_dot, own_inodes}
+use Rattle.o2_model.specs.Inodes.{kind, is_directory, is_file, is_inline, extents, leaf_records}
+use Rattle.o2_model.specs.Directories.{Entry, dir_blocks, directory_entries, is_dot, own_inodes}
 use Rattle.o2_model.specs.SystemFiles.{required_files, system_inode}
 use Rattle.o2_model.specs.Groups.{is_inode}
-use Rattle.o2_model.specs.Checks.Extent.{extent_faults}
 use Rattle.o2_model.specs.Checks.InodeSize.{is_size_of_kind, has_sound_size, inode_size_faults}
 use Rattle.o2_model.specs.Checks.DirBlock.{is_sound_dir_block, dir_block_faults}
 use Rattle.o2_model.specs.Checks.DirentName.{dirent_name_faults}
@@ -60,8 +58,8 @@ keeps_SlotMap v at none agrees =
 
 -- ---- the system directory
 -- the size of what an inode is, where its blocks and the volume's own inodes are the same
-size_of_kind_same : (v : Volume) (at : ℕ → List ℕ) (b : ℕ) (o : Option Kind) → at b ≡ v.at b → leaf_records (over v at) b ≡ leaf_records v b → dir_blocks (over v at) b ≡ dir_blocks v b → own_inodes (over v at) ≡ own_inodes v
-    → is_size_of_kind (over v at) b o ≡ is_size_of_kind v b o
+size_of_kind_same : (v : Volume) (at : ℕ → List ℕ) (b : ℕ) (o : Option Kind) → at b ≡ v.at b → leaf_records (over v at) b ≡ leaf_records v b
+    → dir_blocks (over v at) b ≡ dir_blocks v b → own_inodes (over v at) ≡ own_inodes v → is_size_of_kind (over v at) b o ≡ is_size_of_kind v b o
 size_of_kind_same v at b (Some Directory) same records blocks own = rw (same, blocks) refl
 size_of_kind_same v at b (Some Link) same records blocks own = rw (same, records) refl
 size_of_kind_same v at b (Some File) same records blocks own = rw (same, own) refl
@@ -71,8 +69,8 @@ size_of_kind_same v at b (Some Fifo) same records blocks own = refl
 size_of_kind_same v at b (Some Socket) same records blocks own = refl
 size_of_kind_same v at b None same records blocks own = refl
 
-size_same : (v : Volume) (at : ℕ → List ℕ) (b : ℕ) → at b ≡ v.at b → leaf_records (over v at) b ≡ leaf_records v b → dir_blocks (over v at) b ≡ dir_blocks v b → own_inodes (over v at) ≡ own_inodes v
-    → has_sound_size (over v at) b ≡ has_sound_size v b
+size_same : (v : Volume) (at : ℕ → List ℕ) (b : ℕ) → at b ≡ v.at b → leaf_records (over v at) b ≡ leaf_records v b
+    → dir_blocks (over v at) b ≡ dir_blocks v b → own_inodes (over v at) ≡ own_inodes v → has_sound_size (over v at) b ≡ has_sound_size v b
 unfolding has_sound_size
 size_same v at b same records blocks own = elim (cases_Bool (is_inline v b)) [
   | inl inline ↦ rw (same, inline) refl
@@ -84,13 +82,15 @@ entry_faults_same : (v : Volume) (at : ℕ → List ℕ) (d : ℕ) → directory
     → (dirent_name_faults (over v at) d ≡ dirent_name_faults v d) × (dirent_dup_faults (over v at) d ≡ dirent_dup_faults v d)
 entry_faults_same v at d entries = (rw entries refl, rw entries refl)
 
+-- all five fail at the same blocks of a directory
 directory_same : (v : Volume) (at : ℕ → List ℕ) (d : ℕ) → failing v ≡ [] → AgreesOnOwned v at → is_inode v d ≡ true → is_directory v d ≡ true → directory_faults (over v at) d ≡ directory_faults v d
 directory_same v at d none agrees is directory =
     let apart = directory_apart v d none directory in
     let list = owned_tell_extents v at d none agrees is in
     let blocks = owned_tell_dir_blocks v at d none agrees is apart in
     let own = own_same v at (owned_tell_system_files v at none agrees) in
-    let size : inode_size_faults (over v at) d ≡ inode_size_faults v d = ap (fails_unless d) (size_same v at d (dinode_same v at d agrees is) (ap (λ t. t.leaves) list) blocks own) in
+    let size : inode_size_faults (over v at) d ≡ inode_size_faults v d
+    = ap (fails_unless d) (size_same v at d (dinode_same v at d agrees is) (ap (λ t. t.leaves) list) blocks own) in
     let entries = entry_faults_same v at d (owned_tell_entries v at d none agrees is apart) in
     let extent = extent_faults_same v at d list in
     let of_blocks : dir_block_faults (over v at) d ≡ dir_block_faults v d = ap (fails_at (λ b. b.block) is_sound_dir_block) blocks in
@@ -98,7 +98,8 @@ directory_same v at d none agrees is directory =
     let later = entries.1 in
     cc
 
-pub owned_tell_sound_directory : (v : Volume) (at : ℕ → List ℕ) (d : ℕ) → failing v ≡ [] → AgreesOnOwned v at → is_inode v d ≡ true → is_directory v d ≡ true → is_sound_directory (over v at) d ≡ is_sound_directory v d
+pub owned_tell_sound_directory : (v : Volume) (at : ℕ → List ℕ) (d : ℕ) → failing v ≡ [] → AgreesOnOwned v at → is_inode v d ≡ true → is_directory v d ≡ true
+    → is_sound_directory (over v at) d ≡ is_sound_directory v d
 unfolding is_sound_directory
 owned_tell_sound_directory v at d none agrees is directory =
     let same = dinode_same v at d agrees is in
@@ -129,6 +130,7 @@ entry_same v at e none agrees = elim (cases_Bool (is_inode v e.inode)) [
       rw (owned_tell_inode v at e.inode none agrees, named_kind_same v at e same, flags_same v at e same, same) refl
 ]
 
+-- no file is missing where none was
 there_same : (v : Volume) (at : ℕ → List ℕ) → failing v ≡ [] → AgreesOnOwned v at → has_system_files (over v at) ≡ has_system_files v
 unfolding has_system_files required_files
 there_same v at none agrees =
