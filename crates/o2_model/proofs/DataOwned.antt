@@ -42,7 +42,7 @@ among_inodes v i p is h =
     any_filter p (is_inode v) (range_with_len 0 (blocks v)) ∙ any_range (λ b. is_inode v b && p b) 0 (blocks v) i (omega arith) (omega (arith, inode_in v i is)) (and_from _ _ is h)
 
 -- a block of a cluster that an inode maps, and needs
-mapped_owned : (v : Volume) (i b : ℕ) → is_inode v i ≡ true → needs_bytes v (Inode i) b ≡ true → list_any (λ c. c == cluster_of v b) (clusters_of v i) ≡ true → is_owned v b ≡ true
+pub mapped_owned : (v : Volume) (i b : ℕ) → is_inode v i ≡ true → needs_bytes v (Inode i) b ≡ true → list_any (λ c. c == cluster_of v b) (clusters_of v i) ≡ true → is_owned v b ≡ true
 unfolding inode_claims
 mapped_owned v i b is needs h =
     inode_owned v b (any_flat (owns v b) (λ d. claims_by (Inode d) (clusters_of v d)) (inodes_of v)
@@ -67,7 +67,7 @@ under_cluster v r b begins is =
 abbrev pub data_blocks : Volume → ℕ → List ℕ
 data_blocks v i = flat_map (blocks_under v) (leaf_records v i)
 
-data_mapped : (v : Volume) (i b : ℕ) → among (data_blocks v i) b ≡ true → list_any (λ c. c == cluster_of v b) (clusters_of v i) ≡ true
+pub data_mapped : (v : Volume) (i b : ℕ) → among (data_blocks v i) b ≡ true → list_any (λ c. c == cluster_of v b) (clusters_of v i) ≡ true
 data_mapped v i b h =
     let r = passing (λ r. among (blocks_under v r) b) (leaf_records v i) (sym (any_flat (λ m. b == m) (blocks_under v) (leaf_records v i)) ∙ h) in
     let m = passing (λ m. b == m) (blocks_under v r.item) r.passes in

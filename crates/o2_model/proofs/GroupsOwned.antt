@@ -71,6 +71,10 @@ global_owned v b i low high at =
     let here : list_any (λ c. c == cluster_of v b) (map (λ i. i * group_size v) (from_to 1 (group_count v))) ≡ true = any_map _ (λ i. i * group_size v) (from_to 1 (group_count v)) ∙ from in
     structure_owned v b (structure_parts v b ∙ one_of (list_any (owns v b) (super_claims v)) (list_any (owns v b) (global_claims v)) (list_any (owns v b) (backup_claims v)) (list_any (owns v b) (block_group_claims v)) (inr (inl (by_claim v b GlobalGroup _ refl here))))
 
+-- ---- a backup of the superblock
+pub backup_owned : (v : Volume) (b : ℕ) → list_any (λ c. c == cluster_of v b) (backup_clusters v) ≡ true → is_owned v b ≡ true
+backup_owned v b here = structure_owned v b (structure_parts v b ∙ or_right _ _ (or_right _ _ (or_left _ _ (by_claim v b Backup (backup_clusters v) refl here))))
+
 -- ---- groups of blocks
 group_owned : (v : Volume) (g : Group) (b : ℕ) → Contains (groups v) g → is_of_clusters g ≡ false → cluster_of v g.block ≤ cluster_of v b → cluster_of v b < cluster_of v g.block + g.bits / per_cluster v → is_owned v b ≡ true
 group_owned v g b is blocks_of low high =

@@ -33,3 +33,7 @@ pub mod OwnedTables
 pub mod OwnedTree
 pub mod OwnedFiles
 pub mod OwnedImages
+pub mod GroupChecksKeep
+pub mod JournalsKeep
+pub mod OdditiesKeep
+pub mod SkeletonKeeps

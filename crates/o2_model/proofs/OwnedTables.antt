@@ -63,7 +63,7 @@ slots_inode v b none h =
     let s = passing (λ slot. is_of b (slot_allocators v slot)) (slots v) (sym (any_flat (λ a. b == a.block) (slot_allocators v) (slots v)) ∙ h) in
     slot_inode v b s.item none s.passes
 
-allocator_is_inode : (v : Volume) (b : ℕ) → failing v ≡ [] → is_of b (allocators v) ≡ true → is_inode v b ≡ true
+pub allocator_is_inode : (v : Volume) (b : ℕ) → failing v ≡ [] → is_of b (allocators v) ≡ true → is_inode v b ≡ true
 unfolding allocators
 allocator_is_inode v b none h =
     let bitmap = allocator_named v Clusters no_slot GlobalBitmap in
@@ -105,7 +105,7 @@ bits_same v at b none agrees =
     ap (λ w. list_any (λ g. are_inodes g.of.bit_use && is_on_set_bit (over v at) b g) w.groups) (owned_tell_groups v at none agrees)
     ∙ any_agree (λ g. are_inodes g.of.bit_use && is_on_set_bit (over v at) b g) (λ g. are_inodes g.of.bit_use && is_on_set_bit v b g) (groups v) (bit_same v at b agrees)
 
-valid_same : (v : Volume) (at : ℕ → List ℕ) (b : ℕ) → at b ≡ v.at b → is_valid (over v at) b ≡ is_valid v b
+pub valid_same : (v : Volume) (at : ℕ → List ℕ) (b : ℕ) → at b ≡ v.at b → is_valid (over v at) b ≡ is_valid v b
 unfolding is_valid
 valid_same v at b same = rw same refl
 

@@ -1,14 +1,14 @@
 -- Where nothing fails, blocks that agree on the owned ones have the same extents, entries and contents of inodes.
 use Rattle.std.proofs.Common.{◌≡◌, ⊎_elim, ℕ, true, false, ◌==◌, List, [], ◌∷◌, refl, sym, ◌∙◌, ap, subst}
 use Rattle.std.specs.Prelude.{flat_map}
-use Rattle.std.specs.List.{AllByRecursion, Contains}
+use Rattle.std.specs.List.{AllByRecursion, Contains, range_with_len}
 use Rattle.std.proofs.lemmas.Bool.{or_left, or_cases, eq-eqb, eqb-true}
 use Rattle.std.proofs.lemmas.List.Folds.{list_any-append}
 use Rattle.o2_model.specs.declared.check.Check.TheVariants as check
 use Rattle.o2_model.specs.Words.{among}
-use Rattle.o2_model.specs.Volume.{Volume, over}
+use Rattle.o2_model.specs.Volume.{Volume, over, blocks}
 use Rattle.o2_model.specs.Inodes.{extents, extent_blocks_of}
-use Rattle.o2_model.specs.Directories.{directory_entries}
+use Rattle.o2_model.specs.Directories.{dir_blocks, directory_entries}
 use Rattle.o2_model.specs.Contents.{content_of}
 use Rattle.o2_model.specs.Files.{file_of}
 use Rattle.o2_model.specs.Journals.{journals}
@@ -21,9 +21,10 @@ use Rattle.o2_model.specs.Owned.{is_owned}
 use Rattle.o2_model.specs.Agrees.{AgreesOnOwned}
 use Rattle.o2_model.proofs.NothingFails.{no_check_fails}
 use Rattle.o2_model.proofs.Readings.{extents_same, faults_of_own_list}
-use Rattle.o2_model.proofs.SameEntries.{entries_same}
+use Rattle.o2_model.proofs.SameEntries.{dir_blocks_same, entries_same}
 use Rattle.o2_model.proofs.SameContents.{content_same, file_same}
 use Rattle.o2_model.proofs.Found.{append_nothing, any_flat, passing, each_of}
+use Rattle.o2_model.proofs.Agreeing.{filter_contains}
 use Rattle.o2_model.proofs.WellRead.{extents_well, extent_blocks_are}
 use Rattle.o2_model.proofs.BitsOwned.{dinode_owned, metadata_owned}
 use Rattle.o2_model.proofs.DataOwned.{among_inodes, content_owned, directory_owned}
@@ -40,6 +41,10 @@ inode_listed : (v : Volume) (i : ℕ) → is_inode v i ≡ true → Contains (in
 inode_listed v i is =
     let at = passing (λ b. i == b) (inodes_of v) (among_inodes v i (λ b. i == b) is (eq-eqb i i refl)) in
     subst (Contains (inodes_of v)) (sym (eqb-true i at.item at.passes)) at.inside
+
+pub listed_is_inode : (v : Volume) (i : ℕ) → Contains (inodes_of v) i → is_inode v i ≡ true
+unfolding inodes_of
+listed_is_inode v i is = (filter_contains (is_inode v) (range_with_len 0 (blocks v)) i is).1
 
 extents_hold : (v : Volume) → failing v ≡ [] → flat_map (extent_faults v) (inodes_of v) ≡ []
 unfolding faults
@@ -79,6 +84,11 @@ owned_tell_extents v at i none agrees is =
     }) (no_extent_fault v i none is)
 
 -- ---- entries and contents
+pub owned_tell_dir_blocks : (v : Volume) (at : ℕ → List ℕ) (d : ℕ) → failing v ≡ [] → AgreesOnOwned v at → is_inode v d ≡ true → among (journals v) d ≡ false → dir_blocks (over v at) d ≡ dir_blocks v d
+owned_tell_dir_blocks v at d none agrees is apart =
+    dir_blocks_same v at d (dinode_same v at d agrees is) (owned_tell_extents v at d none agrees is)
+    (record { same = λ b h. agrees.same b (directory_owned v d b is apart h) })
+
 pub owned_tell_entries : (v : Volume) (at : ℕ → List ℕ) (d : ℕ) → failing v ≡ [] → AgreesOnOwned v at → is_inode v d ≡ true → among (journals v) d ≡ false → directory_entries (over v at) d ≡ directory_entries v d
 owned_tell_entries v at d none agrees is apart =
     entries_same v at d (dinode_same v at d agrees is) (owned_tell_extents v at d none agrees is)

@@ -32,7 +32,7 @@ record SameDirectories (v : Volume) (at : ℕ → List ℕ) : Type 0 where
   entries : (d : ℕ) → IsDirectoryInode v d → followed (over v at) d ≡ followed v d
   root : IsDirectoryInode v v.geo.root
 
-kind_same : (v : Volume) (at : ℕ → List ℕ) (b : ℕ) → at b ≡ v.at b → is_directory (over v at) b ≡ is_directory v b
+pub kind_same : (v : Volume) (at : ℕ → List ℕ) (b : ℕ) → at b ≡ v.at b → is_directory (over v at) b ≡ is_directory v b
 unfolding is_directory
 kind_same v at b same = rw same refl
 

@@ -92,11 +92,33 @@ none_rising (n ∷ ns) h =
     let there : finite.get m n ≡ Some (tt {0}) = finite.get-from_entries nat_cmp_total (marks (n ∷ ns)) n ∙ ap (λ r. cond (is_eq r) (Some (tt {0})) (finite.find nat_cmp n (marks ns))) (tied_itself nat_cmp_total n) in
     let e : None ≡ Some (tt {0}) = sym absent ∙ there in cc
 
--- ---- by a sort and a `dedup`
+-- ---- what is among them
 
 or_twice : (a b : Bool) → (a || b) ≡ (a || (a || b))
 or_twice true b = refl
 or_twice false b = refl
+
+or_turned : (a b c : Bool) → (a || (b || c)) ≡ (b || (a || c))
+or_turned true true c = refl
+or_turned true false c = refl
+or_turned false b c = refl
+
+any_with_number : (p : ℕ → Bool) (n : ℕ) (ms : List ℕ) → list_any p (with_number n ms) ≡ (p n || list_any p ms)
+any_with_number p n [] = refl
+any_with_number p n (m ∷ ms) = elim (cases_Bool (nat_lt n m)) [
+  | inl first ↦ rw first refl
+  | inr later ↦ elim (cases_Bool (n == m)) [
+    | inl same ↦ rw (later, same, eqb-true n m same) (or_twice (p m) (list_any p ms))
+    | inr other ↦ rw (later, other, any_with_number p n ms) (or_turned (p m) (p n) (list_any p ms))
+  ]
+]
+
+-- a test finds one in order where it found one
+pub any_rising : (p : ℕ → Bool) (ns : List ℕ) → list_any p (rising ns) ≡ list_any p ns
+any_rising p [] = refl
+any_rising p (n ∷ ns) = any_with_number p n (rising ns) ∙ ap (λ b. p n || b) (any_rising p ns)
+
+-- ---- by a sort and a `dedup`
 
 any_dedup_from : (p : ℕ → Bool) (k : ℕ) (xs : List ℕ) → list_any p (dedup_from eqb k xs) ≡ (p k || list_any p xs)
 any_dedup_from p k [] = refl
