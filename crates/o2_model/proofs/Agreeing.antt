@@ -1,5 +1,7 @@
 -- Functions that agree on the members of a list give the same over the list.
-use Rattle.std.proofs.Common.{◌≡◌, ℕ, ◌+◌, Bool, not, cond, List, [], ◌∷◌, map, ap, refl}
+use Rattle.std.proofs.Common.{◌≡◌, ◌⊎◌, inl, inr, ℕ, zero, suc, ◌+◌, Bool, true, not, cond, List, [], ◌∷◌, map, ap, subst, sym, refl, arith}
+use Rattle.std.proofs.lemmas.Bool.{cases_Bool}
+use Rattle.std.proofs.lemmas.List.Elements.{Contains-append_left, Contains-append_right}
 use Rattle.std.specs.Prelude.{filter, flat_map, fold, find, count_by, sum_by}
 use Rattle.std.specs.List.{Contains, list_any, list_all}
 use Rattle.o2_model.specs.Words.{fails_at}
@@ -42,3 +44,32 @@ count_by_agree p q xs same = sum_by_agree (λ x. cond (p x) 1 0) (λ x. cond (q 
 -- the places of those that lack something
 pub fails_agree : {A : Type 0} (place : A → ℕ) (p q : A → Bool) (xs : List A) → ((x : A) → Contains xs x → p x ≡ q x) → fails_at place p xs ≡ fails_at place q xs
 fails_agree place p q xs same = ap (map place) (filter_agree_on (λ x. not (p x)) (λ x. not (q x)) xs (λ x is. ap not (same x is)))
+
+-- ---- members of lists
+-- it is the first, or one of the others
+pub contains_cases : {A : Type 0} (y x : A) (ys : List A) → Contains (y ∷ ys) x → (y ≡ x) ⊎ Contains ys x
+contains_cases y x ys (zero, within, is) = inl is
+contains_cases y x ys (suc k, within, is) = inr (k, omega (arith, within), is)
+
+-- what a filter leaves is of the list, and passes
+pub contains_filter : {A : Type 0} (p : A → Bool) (xs : List A) (x : A) → Contains (filter p xs) x → Contains xs x × (p x ≡ true)
+contains_filter p [] x is = absurd (omega (arith, is.1))
+contains_filter p (y ∷ ys) x is = elim (cases_Bool (p y)) [
+  | inr bad ↦
+      let later = contains_filter p ys x (rw bad at is) in
+      (contains_later y x ys later.0, later.1)
+  | inl good ↦ elim (contains_cases y x (filter p ys) (rw good at is)) [
+    | inl same ↦ (subst (λ z. Contains (y ∷ ys) z) same (contains_first y ys), subst (λ z. p z ≡ true) same good)
+    | inr there ↦
+        let later = contains_filter p ys x there in
+        (contains_later y x ys later.0, later.1)
+  ]
+]
+
+-- what a part of a joined list has is of the whole
+pub contains_flat : {A B : Type 0} (f : A → List B) (xs : List A) (x : A) (y : B) → Contains xs x → Contains (f x) y → Contains (flat_map f xs) y
+contains_flat f [] x y is inside = absurd (omega (arith, is.1))
+contains_flat f (z ∷ zs) x y is inside = elim (contains_cases z x zs is) [
+  | inl same ↦ Contains-append_left (f z) (flat_map f zs) y (subst (λ w. Contains (f w) y) (sym same) inside)
+  | inr there ↦ Contains-append_right (f z) (flat_map f zs) y (contains_flat f zs x y there inside)
+]

@@ -33,3 +33,4 @@ pub mod OwnedTables
 pub mod OwnedTree
 pub mod OwnedFiles
 pub mod OwnedImages
+pub mod RootsKeep
