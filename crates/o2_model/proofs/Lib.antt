@@ -34,3 +34,6 @@ pub mod OwnedTree
 pub mod OwnedFiles
 pub mod OwnedImages
 pub mod RootsKeep
+pub mod BlockNames
+pub mod RefcountsKeep
+pub mod MetadataKeeps
