@@ -37,3 +37,5 @@ pub mod RootsKeep
 pub mod BlockNames
 pub mod RefcountsKeep
 pub mod MetadataKeeps
+pub mod SharingKeeps
+pub mod RefcountChecksKeep

@@ -23,7 +23,7 @@ use Rattle.o2_model.proofs.RootsKeep.{listed_is_inode, owned_tell_roots}
 use Rattle.o2_model.proofs.RefcountsKeep.{owned_tell_tree_blocks}
 
 -- ---- the lists of an inode
-has_list_same : (v : Volume) (at : ℕ → List ℕ) (i : ℕ) → at i ≡ v.at i → has_list (over v at) i ≡ has_list v i
+pub has_list_same : (v : Volume) (at : ℕ → List ℕ) (i : ℕ) → at i ≡ v.at i → has_list (over v at) i ≡ has_list v i
 has_list_same v at i same = rw same refl
 
 pub owned_tell_lists : (v : Volume) (at : ℕ → List ℕ) (i : ℕ) → failing v ≡ [] → AgreesOnOwned v at → is_inode v i ≡ true → extent_lists_of (over v at) i ≡ extent_lists_of v i
