@@ -39,3 +39,5 @@ pub mod RefcountsKeep
 pub mod MetadataKeeps
 pub mod SharingKeeps
 pub mod RefcountChecksKeep
+pub mod MetadataChecksKeep
+pub mod LeafBlocksKeep
