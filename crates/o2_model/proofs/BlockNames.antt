@@ -5,7 +5,7 @@ use Rattle.o2_ondisk.specs.declared.extent_rec.ExtentRec.{ExtentRec}
 use Rattle.o2_model.specs.Words.{among, push}
 use Rattle.o2_model.specs.Volume.{Volume, over}
 use Rattle.o2_model.specs.Frames.{SameOn}
-use Rattle.o2_model.specs.Extents.{Extents, leaf_clusters, list_in_block, with_leaf, with_seen, with_fault, is_sound_header, is_extent_block, names_new_block, most_in_block, with_met, records_in_block, nothing_read, extent_list}
+use Rattle.o2_model.specs.Extents.{Extents, leaf_clusters, list_in_block, with_leaf, with_seen, is_sound_header, is_extent_block, names_new_block, most_in_block, with_met, records_in_block, nothing_read, extent_list}
 use Rattle.o2_model.specs.RefcountTrees.{is_refcount_block, has_leaf_blocks, most_in_refcount_block, read_block_names, leaf_list}
 use Rattle.o2_model.proofs.Readings.{Grows, grows_none, grows_both, grows_leaf, grows_seen, grows_fault, grows_cond, grows_met, push_some, among_last, met_seen, same_new, same_block, same_met, same_records, same_on_before}
 
@@ -26,8 +26,8 @@ names_grow v (suc depth) holder low (r ∷ rs) t =
 
 -- ---- over other blocks
 -- Read without a fault, the records give the same over other blocks that agree on those that were looked at.
-names_same : (v : Volume) (at : ℕ → List ℕ) (depth holder low : ℕ) (rs : List ExtentRec) (t : Extents) → SameOn (read_block_names v depth holder low rs t).seen v at → (read_block_names v depth holder low rs t).faults ≡ []
-    → read_block_names (over v at) depth holder low rs t ≡ read_block_names v depth holder low rs t
+names_same : (v : Volume) (at : ℕ → List ℕ) (depth holder low : ℕ) (rs : List ExtentRec) (t : Extents) → SameOn (read_block_names v depth holder low rs t).seen v at
+    → (read_block_names v depth holder low rs t).faults ≡ [] → read_block_names (over v at) depth holder low rs t ≡ read_block_names v depth holder low rs t
 names_same v at depth holder low [] t same none = refl
 names_same v at zero holder low (r ∷ rs) t same none = names_same v at zero holder low rs _ same none
 names_same v at (suc depth) holder low (r ∷ rs) t same none =

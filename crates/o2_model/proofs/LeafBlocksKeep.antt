@@ -2,13 +2,12 @@
 use Rattle.std.proofs.Common.{◌≡◌, inl, inr, ℕ, Bool, true, ◌==◌, List, [], ◌∷◌, ◌++◌, refl, sym, ◌∙◌, ap, subst}
 use Rattle.std.specs.Prelude.{filter, flat_map, fold}
 use Rattle.std.specs.List.{Contains}
-use Rattle.std.proofs.lemmas.Bool.{and_parts}
 use Rattle.std.proofs.lemmas.List.Elements.{Contains-append_cases}
 use Rattle.o2_model.specs.declared.check.Check.TheVariants as check
 use Rattle.o2_model.specs.Words.{fails_at, fails_unless}
 use Rattle.o2_model.specs.Volume.{Volume, over, dinode}
 use Rattle.o2_model.specs.Extents.{Extents, extent_block, list_in_block}
-use Rattle.o2_model.specs.Inodes.{extents, has_list, extent_lists_of, extent_blocks_of}
+use Rattle.o2_model.specs.Inodes.{extents, has_list, extent_lists_of}
 use Rattle.o2_model.specs.Groups.{inodes_of}
 use Rattle.o2_model.specs.RefcountTrees.{refcount_block, refcount_roots, has_leaf_blocks, leaf_list}
 use Rattle.o2_model.specs.Checks.EbNext.{leaf_blocks, next_faults, all_lists, eb_next_faults}
@@ -17,14 +16,16 @@ use Rattle.o2_model.specs.Failing.{faults, failing}
 use Rattle.o2_model.specs.Owned.{is_owned}
 use Rattle.o2_model.specs.Agrees.{AgreesOnOwned}
 use Rattle.o2_model.proofs.Found.{contains_first, contains_later}
-use Rattle.o2_model.proofs.Agreeing.{flat_map_agree, filter_agree_on, fails_agree, contains_filter, contains_flat, contains_one, flat_contains}
+use Rattle.o2_model.proofs.Agreeing.{flat_map_agree, filter_agree_on, fails_agree}
+use Rattle.o2_model.proofs.Members.{contains_filter, contains_flat, contains_one, flat_contains}
+use Rattle.o2_model.proofs.Readings.{same_has_list}
 use Rattle.o2_model.proofs.WellRead.{extent_blocks_are}
 use Rattle.o2_model.proofs.OwnedTells.{owned_tell_extents}
 use Rattle.o2_model.proofs.OwnedTables.{owned_tell_inodes}
 use Rattle.o2_model.proofs.BlockNames.{has_leaf_blocks_same}
 use Rattle.o2_model.proofs.RootsKeep.{listed_is_inode, listed_dinode_same, owned_tell_roots}
 use Rattle.o2_model.proofs.RefcountsKeep.{list_block_owned, root_same, owned_tell_leaf_list}
-use Rattle.o2_model.proofs.MetadataKeeps.{has_list_same, owned_tell_lists, inode_block_owned}
+use Rattle.o2_model.proofs.MetadataKeeps.{owned_tell_lists, inode_block_owned}
 
 -- ---- the leaf blocks of a list whose blocks are the same
 is_leaf_same : (v : Volume) (at : ℕ → List ℕ) (b : ℕ) → at b ≡ v.at b → ((list_in_block (over v at) b).header.tree_depth == 0) ≡ ((list_in_block v b).header.tree_depth == 0)
@@ -38,7 +39,8 @@ leaf_in_list : (v : Volume) (t : Extents) (b : ℕ) → Contains (leaf_blocks v 
 unfolding leaf_blocks
 leaf_in_list v t b is = (contains_filter _ t.blocks b is).0
 
-names_next_same : (v : Volume) (at : ℕ → List ℕ) (b next : ℕ) → at b ≡ v.at b → fails_unless b ((extent_block (over v at) b).next_leaf_blk == next) ≡ fails_unless b ((extent_block v b).next_leaf_blk == next)
+names_next_same : (v : Volume) (at : ℕ → List ℕ) (b next : ℕ) → at b ≡ v.at b
+    → fails_unless b ((extent_block (over v at) b).next_leaf_blk == next) ≡ fails_unless b ((extent_block v b).next_leaf_blk == next)
 names_next_same v at b next same = rw same refl
 
 next_faults_same : (v : Volume) (at : ℕ → List ℕ) (bs : List ℕ) → ((b : ℕ) → Contains bs b → at b ≡ v.at b) → next_faults (over v at) bs ≡ next_faults v bs
@@ -136,9 +138,10 @@ root_names_last_same v at root none agrees is =
 inodes_with_list_same : (v : Volume) (at : ℕ → List ℕ) → failing v ≡ [] → AgreesOnOwned v at → filter (has_list (over v at)) (inodes_of (over v at)) ≡ filter (has_list v) (inodes_of v)
 inodes_with_list_same v at none agrees =
     ap (filter (has_list (over v at))) (owned_tell_inodes v at none agrees)
-    ∙ filter_agree_on (has_list (over v at)) (has_list v) (inodes_of v) (λ i is. has_list_same v at i (listed_dinode_same v at i agrees is))
+    ∙ filter_agree_on (has_list (over v at)) (has_list v) (inodes_of v) (λ i is. same_has_list v at i (listed_dinode_same v at i agrees is))
 
-roots_with_leaves_same : (v : Volume) (at : ℕ → List ℕ) → failing v ≡ [] → AgreesOnOwned v at → filter (has_leaf_blocks (over v at)) (refcount_roots (over v at)) ≡ filter (has_leaf_blocks v) (refcount_roots v)
+roots_with_leaves_same : (v : Volume) (at : ℕ → List ℕ) → failing v ≡ [] → AgreesOnOwned v at
+    → filter (has_leaf_blocks (over v at)) (refcount_roots (over v at)) ≡ filter (has_leaf_blocks v) (refcount_roots v)
 roots_with_leaves_same v at none agrees =
     ap (filter (has_leaf_blocks (over v at))) (owned_tell_roots v at none agrees)
     ∙ filter_agree_on (has_leaf_blocks (over v at)) (has_leaf_blocks v) (refcount_roots v) (λ root is. has_leaf_blocks_same v at root (root_same v at root none agrees is))
@@ -151,7 +154,8 @@ last_of_inodes_same v at none agrees =
     (λ i is. names_last_same v at i none agrees (contains_filter (has_list v) (inodes_of v) i is).0)
 
 last_of_roots_same : (v : Volume) (at : ℕ → List ℕ) → failing v ≡ [] → AgreesOnOwned v at
-    → fails_at (λ b. b) (root_names_last (over v at)) (filter (has_leaf_blocks (over v at)) (refcount_roots (over v at))) ≡ fails_at (λ b. b) (root_names_last v) (filter (has_leaf_blocks v) (refcount_roots v))
+    → fails_at (λ b. b) (root_names_last (over v at)) (filter (has_leaf_blocks (over v at)) (refcount_roots (over v at)))
+    ≡ fails_at (λ b. b) (root_names_last v) (filter (has_leaf_blocks v) (refcount_roots v))
 last_of_roots_same v at none agrees =
     ap (fails_at (λ b. b) (root_names_last (over v at))) (roots_with_leaves_same v at none agrees)
     ∙ fails_agree (λ b. b) (root_names_last (over v at)) (root_names_last v) (filter (has_leaf_blocks v) (refcount_roots v))

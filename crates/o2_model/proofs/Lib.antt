@@ -21,6 +21,7 @@ pub mod SameAllocators
 pub mod BitPlaces
 pub mod Found
 pub mod Agreeing
+pub mod Members
 pub mod OwnedBlocks
 pub mod GoodGroups
 pub mod GroupsOwned

@@ -1,33 +1,26 @@
 -- Where nothing fails, the checks of extent blocks are the same over blocks that agree on the owned ones.
 use Rattle.std.proofs.Common.{◌≡◌, inl, inr, ℕ, Bool, true, ◌&&◌, ◌==◌, List, [], ◌++◌, map, refl, ◌∙◌, ap}
-use Rattle.std.specs.Prelude.{filter, flat_map, fold}
+use Rattle.std.specs.Prelude.{filter, flat_map}
 use Rattle.std.specs.List.{Contains}
 use Rattle.std.proofs.lemmas.List.Elements.{Contains-append_cases}
 use Rattle.o2_model.specs.declared.check.Check.TheVariants as check
-use Rattle.o2_model.specs.Words.{fails_at, fails_unless}
-use Rattle.o2_model.specs.Volume.{Volume, over, dinode}
-use Rattle.o2_model.specs.Extents.{Extents, extent_block, list_in_block}
-use Rattle.o2_model.specs.Inodes.{extents, has_list, extent_lists_of}
+use Rattle.o2_model.specs.Words.{fails_at}
+use Rattle.o2_model.specs.Volume.{Volume, over}
 use Rattle.o2_model.specs.Allocators.{are_metadata}
-use Rattle.o2_model.specs.Groups.{inodes_of}
-use Rattle.o2_model.specs.RefcountTrees.{refcount_block, refcount_roots, is_refcount_block, has_leaf_blocks, refcount_leaves, leaf_list}
+use Rattle.o2_model.specs.RefcountTrees.{refcount_roots, is_refcount_block, refcount_leaves, leaf_list}
 use Rattle.o2_model.specs.Metadata.{extent_block_origin, refcount_block_origin, has_origin, is_on_metadata_bit, list_blocks, metadata_blocks}
 use Rattle.o2_model.specs.Files.{times_in}
 use Rattle.o2_model.specs.Checks.MetaBlock.{is_sound_metadata_block, meta_block_faults}
 use Rattle.o2_model.specs.Checks.MetaSuballoc.{extent_blocks, roots_and_leaves, meta_suballoc_faults}
-use Rattle.o2_model.specs.Checks.EbNext.{leaf_blocks, next_faults, all_lists, eb_next_faults}
-use Rattle.o2_model.specs.Checks.LastEb.{last_leaf, last_eb_faults}
 use Rattle.o2_model.specs.Failing.{faults, failing}
 use Rattle.o2_model.specs.Owned.{is_owned}
 use Rattle.o2_model.specs.Agrees.{AgreesOnOwned}
-use Rattle.o2_model.proofs.Found.{contains_first, contains_later}
-use Rattle.o2_model.proofs.Agreeing.{map_agree, flat_map_agree, filter_agree_on, fails_agree, contains_filter, contains_flat, contains_one, flat_contains}
-use Rattle.o2_model.proofs.OwnedTells.{owned_tell_extents}
-use Rattle.o2_model.proofs.OwnedTables.{owned_tell_inodes}
-use Rattle.o2_model.proofs.BlockNames.{refcount_block_same, has_leaf_blocks_same}
-use Rattle.o2_model.proofs.RootsKeep.{listed_is_inode, listed_dinode_same, owned_tell_roots}
-use Rattle.o2_model.proofs.RefcountsKeep.{root_owned, list_block_owned, leaf_owned, root_same, owned_tell_leaf_list}
-use Rattle.o2_model.proofs.MetadataKeeps.{has_list_same, owned_tell_lists, owned_tell_list_blocks, owned_tell_metadata, owned_tell_metadata_bit, owned_tell_origin, listed_block_owned, inode_block_owned}
+use Rattle.o2_model.proofs.Agreeing.{flat_map_agree, filter_agree_on, fails_agree}
+use Rattle.o2_model.proofs.Members.{contains_filter, flat_contains}
+use Rattle.o2_model.proofs.BlockNames.{refcount_block_same}
+use Rattle.o2_model.proofs.RootsKeep.{owned_tell_roots}
+use Rattle.o2_model.proofs.RefcountsKeep.{root_owned, list_block_owned, leaf_owned, owned_tell_leaf_list}
+use Rattle.o2_model.proofs.MetadataKeeps.{owned_tell_list_blocks, owned_tell_metadata, owned_tell_metadata_bit, owned_tell_origin, listed_block_owned}
 
 -- ---- META_BLOCK
 sound_block_same : (v : Volume) (at : ℕ → List ℕ) (b : ℕ) → failing v ≡ [] → AgreesOnOwned v at → is_sound_metadata_block (over v at) b ≡ is_sound_metadata_block v b
@@ -50,7 +43,8 @@ keeps_MetaBlock v at none agrees = meta_block_same v at none agrees
 abbrev tree_extent_blocks : Volume → ℕ → List ℕ
 tree_extent_blocks v root = (leaf_list v root).blocks
 
-tree_extent_blocks_same : (v : Volume) (at : ℕ → List ℕ) → failing v ≡ [] → AgreesOnOwned v at → flat_map (tree_extent_blocks (over v at)) (refcount_roots (over v at)) ≡ flat_map (tree_extent_blocks v) (refcount_roots v)
+tree_extent_blocks_same : (v : Volume) (at : ℕ → List ℕ) → failing v ≡ [] → AgreesOnOwned v at
+    → flat_map (tree_extent_blocks (over v at)) (refcount_roots (over v at)) ≡ flat_map (tree_extent_blocks v) (refcount_roots v)
 tree_extent_blocks_same v at none agrees =
     ap (flat_map (tree_extent_blocks (over v at))) (owned_tell_roots v at none agrees)
     ∙ flat_map_agree (tree_extent_blocks (over v at)) (tree_extent_blocks v) (refcount_roots v) (λ root is. ap (λ t. t.blocks) (owned_tell_leaf_list v at root none agrees is))
@@ -80,7 +74,8 @@ tells_origin_same v at b none agrees same =
 roots_and_leaves_same : (v : Volume) (at : ℕ → List ℕ) → failing v ≡ [] → AgreesOnOwned v at → roots_and_leaves (over v at) ≡ roots_and_leaves v
 roots_and_leaves_same v at none agrees =
     ap (λ roots. roots ++ flat_map (refcount_leaves (over v at)) roots) (owned_tell_roots v at none agrees)
-    ∙ ap (λ bs. refcount_roots v ++ bs) (flat_map_agree (refcount_leaves (over v at)) (refcount_leaves v) (refcount_roots v) (λ root is. ap (λ t. map (λ r. r.blkno) t.leaves) (owned_tell_leaf_list v at root none agrees is)))
+    ∙ ap (λ bs. refcount_roots v ++ bs) (flat_map_agree (refcount_leaves (over v at)) (refcount_leaves v) (refcount_roots v)
+    (λ root is. ap (λ t. map (λ r. r.blkno) t.leaves) (owned_tell_leaf_list v at root none agrees is)))
 
 root_or_leaf_owned : (v : Volume) (b : ℕ) → failing v ≡ [] → Contains (roots_and_leaves v) b → is_owned v b ≡ true
 root_or_leaf_owned v b none is = elim (Contains-append_cases (refcount_roots v) (flat_map (refcount_leaves v) (refcount_roots v)) b is) [

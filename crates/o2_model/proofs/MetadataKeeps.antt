@@ -1,13 +1,12 @@
 -- Where nothing fails, blocks that agree on the owned ones have the same lists of inodes, the same extent blocks and refcount blocks, and the same groups that they are from.
-use Rattle.std.proofs.Common.{◌≡◌, ℕ, Bool, true, false, ◌&&◌, List, [], ◌∷◌, ◌++◌, refl, ◌∙◌, ap}
+use Rattle.std.proofs.Common.{◌≡◌, ℕ, Bool, true, false, ◌&&◌, List, [], refl, ◌∙◌, ap}
 use Rattle.std.specs.Prelude.{find, flat_map}
 use Rattle.std.specs.List.{Contains}
 use Rattle.std.specs.Option.{option_map_or}
 use Rattle.std.proofs.lemmas.List.Elements.{Contains-append_left}
-use Rattle.o2_ondisk.specs.declared.extent_rec.ExtentRec.{ExtentRec}
 use Rattle.o2_model.specs.declared.allocator.BitUse.{BitUse}
 use Rattle.o2_model.specs.Volume.{Volume, over}
-use Rattle.o2_model.specs.Inodes.{has_list, extents, extent_lists_of, records_of, extent_blocks_of}
+use Rattle.o2_model.specs.Inodes.{extent_lists_of, records_of, extent_blocks_of}
 use Rattle.o2_model.specs.Allocators.{are_metadata}
 use Rattle.o2_model.specs.Groups.{is_inode, inodes_of}
 use Rattle.o2_model.specs.RefcountTrees.{refcount_roots, refcount_tree_blocks}
@@ -15,7 +14,9 @@ use Rattle.o2_model.specs.Metadata.{Origin, is_on_bit, group_with_bit, is_on_met
 use Rattle.o2_model.specs.Failing.{failing}
 use Rattle.o2_model.specs.Owned.{is_owned}
 use Rattle.o2_model.specs.Agrees.{AgreesOnOwned}
-use Rattle.o2_model.proofs.Agreeing.{flat_map_agree, contains_flat, contains_among}
+use Rattle.o2_model.proofs.Agreeing.{flat_map_agree}
+use Rattle.o2_model.proofs.Members.{contains_flat, contains_among}
+use Rattle.o2_model.proofs.Readings.{same_has_list}
 use Rattle.o2_model.proofs.BitsOwned.{metadata_owned}
 use Rattle.o2_model.proofs.OwnedTells.{metadata_holds, dinode_same, owned_tell_extents}
 use Rattle.o2_model.proofs.OwnedTables.{owned_tell_groups, owned_tell_inodes}
@@ -23,13 +24,10 @@ use Rattle.o2_model.proofs.RootsKeep.{listed_is_inode, owned_tell_roots}
 use Rattle.o2_model.proofs.RefcountsKeep.{owned_tell_tree_blocks}
 
 -- ---- the lists of an inode
-pub has_list_same : (v : Volume) (at : ℕ → List ℕ) (i : ℕ) → at i ≡ v.at i → has_list (over v at) i ≡ has_list v i
-has_list_same v at i same = rw same refl
-
 pub owned_tell_lists : (v : Volume) (at : ℕ → List ℕ) (i : ℕ) → failing v ≡ [] → AgreesOnOwned v at → is_inode v i ≡ true → extent_lists_of (over v at) i ≡ extent_lists_of v i
 unfolding extent_lists_of
 owned_tell_lists v at i none agrees is =
-    rw (has_list_same v at i (dinode_same v at i agrees is), owned_tell_extents v at i none agrees is) refl
+    rw (same_has_list v at i (dinode_same v at i agrees is), owned_tell_extents v at i none agrees is) refl
 
 pub owned_tell_records : (v : Volume) (at : ℕ → List ℕ) (i : ℕ) → failing v ≡ [] → AgreesOnOwned v at → is_inode v i ≡ true → records_of (over v at) i ≡ records_of v i
 owned_tell_records v at i none agrees is = ap (flat_map (λ t. t.leaves)) (owned_tell_lists v at i none agrees is)

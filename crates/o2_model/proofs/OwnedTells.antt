@@ -23,7 +23,8 @@ use Rattle.o2_model.proofs.NothingFails.{no_check_fails}
 use Rattle.o2_model.proofs.Readings.{extents_same, faults_of_own_list}
 use Rattle.o2_model.proofs.SameEntries.{entries_same}
 use Rattle.o2_model.proofs.SameContents.{content_same, file_same}
-use Rattle.o2_model.proofs.Found.{append_nothing, any_flat, passing, each_of}
+use Rattle.o2_model.proofs.Found.{append_nothing, any_flat, each_of}
+use Rattle.o2_model.proofs.Members.{among_contains}
 use Rattle.o2_model.proofs.WellRead.{extents_well, extent_blocks_are}
 use Rattle.o2_model.proofs.BitsOwned.{dinode_owned, metadata_owned}
 use Rattle.o2_model.proofs.DataOwned.{among_inodes, content_owned, directory_owned}
@@ -35,11 +36,9 @@ each_nothing f (x ∷ xs) h =
     let parts = append_nothing (f x) (flat_map f xs) h in
     (parts.0, each_nothing f xs parts.1)
 
--- what holds of each inode of the list
+-- an inode is one of the list
 pub inode_listed : (v : Volume) (i : ℕ) → is_inode v i ≡ true → Contains (inodes_of v) i
-inode_listed v i is =
-    let at = passing (λ b. i == b) (inodes_of v) (among_inodes v i (λ b. i == b) is (eq-eqb i i refl)) in
-    subst (Contains (inodes_of v)) (sym (eqb-true i at.item at.passes)) at.inside
+inode_listed v i is = among_contains (inodes_of v) i (among_inodes v i (λ b. i == b) is (eq-eqb i i refl))
 
 extents_hold : (v : Volume) → failing v ≡ [] → flat_map (extent_faults v) (inodes_of v) ≡ []
 unfolding faults

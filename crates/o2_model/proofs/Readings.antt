@@ -141,7 +141,7 @@ reading_same v at m (suc depth) holder low (r ∷ rs) t same none =
       ]
     ]
 
-same_has_list : (v : Volume) (at : ℕ → List ℕ) (b : ℕ) → at b ≡ v.at b → has_list (over v at) b ≡ has_list v b
+pub same_has_list : (v : Volume) (at : ℕ → List ℕ) (b : ℕ) → at b ≡ v.at b → has_list (over v at) b ≡ has_list v b
 same_has_list v at b same = rw same refl
 
 -- and so does an inode

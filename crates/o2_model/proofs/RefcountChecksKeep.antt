@@ -1,5 +1,5 @@
 -- Where nothing fails, the checks of refcount trees are the same over blocks that agree on the owned ones.
-use Rattle.std.proofs.Common.{◌≡◌, ℕ, ◌%◌, ◌^◌, Bool, true, ◌&&◌, ◌==◌, List, [], ◌++◌, length, refl, ◌∙◌, ap}
+use Rattle.std.proofs.Common.{◌≡◌, ℕ, ◌%◌, ◌^◌, Bool, ◌&&◌, ◌==◌, List, [], ◌++◌, length, refl, ◌∙◌, ap}
 use Rattle.std.specs.Prelude.{filter, flat_map}
 use Rattle.std.specs.List.{Contains, list_any, list_all}
 use Rattle.o2_model.specs.declared.check.Check.TheVariants as check
@@ -8,14 +8,15 @@ use Rattle.o2_model.specs.Volume.{Volume, over}
 use Rattle.o2_model.specs.LeafRecords.{is_refcounted}
 use Rattle.o2_model.specs.Files.{shared_references}
 use Rattle.o2_model.specs.Groups.{inodes_of}
-use Rattle.o2_model.specs.RefcountTrees.{PlacedRefcount, Refcounts, has_refcount, refcount_roots, inodes_of_tree, is_refcount_block, refcount_block, refcounts}
+use Rattle.o2_model.specs.RefcountTrees.{PlacedRefcount, Refcounts, refcount_roots, inodes_of_tree, is_refcount_block, refcount_block, refcounts}
 use Rattle.o2_model.specs.Checks.RefTree.{has_tree, has_refcounted, is_sound_root_block, ref_tree_faults_of, ref_tree_faults}
 use Rattle.o2_model.specs.Checks.RefCover.{tree_references, record_clusters, is_shared_evenly, is_covering, ref_cover_faults}
 use Rattle.o2_model.specs.Checks.RefCount.{has_sound_count, ref_count_faults_of, ref_count_faults}
 use Rattle.o2_model.specs.Checks.RefUsers.{ref_users_faults}
 use Rattle.o2_model.specs.Failing.{faults, failing}
 use Rattle.o2_model.specs.Agrees.{AgreesOnOwned}
-use Rattle.o2_model.proofs.Agreeing.{flat_map_agree, filter_agree_on, fails_agree, contains_filter}
+use Rattle.o2_model.proofs.Agreeing.{flat_map_agree, filter_agree_on, fails_agree}
+use Rattle.o2_model.proofs.Members.{contains_filter}
 use Rattle.o2_model.proofs.OwnedTables.{owned_tell_inodes}
 use Rattle.o2_model.proofs.BlockNames.{refcount_block_same}
 use Rattle.o2_model.proofs.RootsKeep.{listed_is_inode, listed_dinode_same, owned_tell_roots, owned_tell_tree_inodes}
@@ -47,6 +48,7 @@ refcounted_inodes_same v at none agrees =
     ap (filter (has_refcounted (over v at))) (owned_tell_inodes v at none agrees)
     ∙ filter_agree_on (has_refcounted (over v at)) (has_refcounted v) (inodes_of v) (λ b is. refcounted_same v at b none agrees is)
 
+-- the inodes without a tree that have refcounted records
 without_tree_same : (v : Volume) (at : ℕ → List ℕ) → failing v ≡ [] → AgreesOnOwned v at
     → fails_at (λ b. b) (has_tree (over v at)) (filter (has_refcounted (over v at)) (inodes_of (over v at))) ≡ fails_at (λ b. b) (has_tree v) (filter (has_refcounted v) (inodes_of v))
 without_tree_same v at none agrees =
@@ -63,7 +65,8 @@ tree_faults_same v at root none agrees is =
     ap (λ sound. fails_unless root sound ++ (refcounts (over v at) root).faults) (sound_root_same v at root none agrees is)
     ∙ ap (λ t. fails_unless root (is_sound_root_block v root) ++ t.faults) (owned_tell_refcounts v at root none agrees is)
 
-all_tree_faults_same : (v : Volume) (at : ℕ → List ℕ) → failing v ≡ [] → AgreesOnOwned v at → flat_map (ref_tree_faults_of (over v at)) (refcount_roots (over v at)) ≡ flat_map (ref_tree_faults_of v) (refcount_roots v)
+all_tree_faults_same : (v : Volume) (at : ℕ → List ℕ) → failing v ≡ [] → AgreesOnOwned v at
+    → flat_map (ref_tree_faults_of (over v at)) (refcount_roots (over v at)) ≡ flat_map (ref_tree_faults_of v) (refcount_roots v)
 all_tree_faults_same v at none agrees =
     ap (flat_map (ref_tree_faults_of (over v at))) (owned_tell_roots v at none agrees)
     ∙ flat_map_agree (ref_tree_faults_of (over v at)) (ref_tree_faults_of v) (refcount_roots v) (λ root is. tree_faults_same v at root none agrees is)

@@ -1,24 +1,24 @@
 -- Where nothing fails, the blocks of refcount trees are owned, and blocks that agree on the owned ones have the same trees.
-use Rattle.std.proofs.Common.{◌≡◌, inl, inr, ⊎_elim, ℕ, true, ◌&&◌, ◌==◌, List, [], ◌∷◌, ◌++◌, map, refl, sym, ◌∙◌, ap, subst}
+use Rattle.std.proofs.Common.{◌≡◌, inl, inr, ⊎_elim, ℕ, true, ◌==◌, List, [], ◌∷◌, ◌++◌, map, refl, sym, ◌∙◌, ap, subst}
 use Rattle.std.specs.Prelude.{fold, flat_map}
 use Rattle.std.specs.List.{Contains}
 use Rattle.std.proofs.lemmas.Bool.{cases_Bool, and_parts, or_cases, eqb-true}
 use Rattle.std.proofs.lemmas.List.Elements.{Contains-append_left, Contains-append_right}
 use Rattle.o2_ondisk.specs.declared.refcount_rec.RefcountRec.{RefcountRec}
 use Rattle.o2_model.specs.declared.check.Check.TheVariants as check
-use Rattle.o2_model.specs.Words.{among, push, fails_at, fails_unless}
+use Rattle.o2_model.specs.Words.{among, fails_unless}
 use Rattle.o2_model.specs.Orders.{is_none_of}
 use Rattle.o2_model.specs.Volume.{Volume, over}
-use Rattle.o2_model.specs.Groups.{inodes_of}
 use Rattle.o2_model.specs.Metadata.{list_blocks, refcount_blocks, metadata_blocks}
-use Rattle.o2_model.specs.RefcountTrees.{Refcounts, refcount_roots, is_refcount_block, has_leaf_blocks, leaf_list, refcount_leaves, refcount_tree_blocks, is_sound_refcount_header, refcount_records, refcount_end, is_sound_refcount, read_refcounts, read_refcount_block, record_blocks, refcounts}
-use Rattle.o2_model.specs.Checks.RefTree.{has_tree, has_refcounted, is_sound_root_block, ref_tree_faults_of, ref_tree_faults}
+use Rattle.o2_model.specs.RefcountTrees.{Refcounts, refcount_roots, is_refcount_block, has_leaf_blocks, leaf_list, refcount_leaves, refcount_tree_blocks, refcount_records, refcount_end, is_sound_refcount, read_refcounts, read_refcount_block, record_blocks, refcounts}
+use Rattle.o2_model.specs.Checks.RefTree.{is_sound_root_block, ref_tree_faults_of, ref_tree_faults}
 use Rattle.o2_model.specs.Failing.{faults, failing}
 use Rattle.o2_model.specs.Owned.{is_owned}
 use Rattle.o2_model.specs.Agrees.{AgreesOnOwned}
 use Rattle.o2_model.proofs.NothingFails.{no_check_fails}
 use Rattle.o2_model.proofs.Found.{append_nothing, each_of, contains_first, contains_later}
-use Rattle.o2_model.proofs.Agreeing.{fold_agree, contains_flat, contains_one, contains_among, among_contains}
+use Rattle.o2_model.proofs.Agreeing.{fold_agree}
+use Rattle.o2_model.proofs.Members.{contains_flat, contains_one, contains_among, among_contains}
 use Rattle.o2_model.proofs.BitsOwned.{metadata_owned}
 use Rattle.o2_model.proofs.SystemOwned.{holds_unless}
 use Rattle.o2_model.proofs.OwnedTells.{each_nothing, metadata_holds}
@@ -95,7 +95,8 @@ owned_tell_leaf_list v at root none agrees is =
           (or_cases (b == root) (among (leaf_list v root).seen b) h);
     }) (no_leaf_list_fault v root none is)
 
-pub owned_tell_tree_blocks : (v : Volume) (at : ℕ → List ℕ) (root : ℕ) → failing v ≡ [] → AgreesOnOwned v at → Contains (refcount_roots v) root → refcount_tree_blocks (over v at) root ≡ refcount_tree_blocks v root
+pub owned_tell_tree_blocks : (v : Volume) (at : ℕ → List ℕ) (root : ℕ) → failing v ≡ [] → AgreesOnOwned v at → Contains (refcount_roots v) root
+    → refcount_tree_blocks (over v at) root ≡ refcount_tree_blocks v root
 unfolding refcount_tree_blocks
 owned_tell_tree_blocks v at root none agrees is =
     ap (λ t. root ∷ t.blocks ++ map (λ r. r.blkno) t.leaves) (owned_tell_leaf_list v at root none agrees is)

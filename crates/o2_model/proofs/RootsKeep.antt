@@ -8,7 +8,8 @@ use Rattle.o2_model.specs.Groups.{is_inode, inodes_of}
 use Rattle.o2_model.specs.RefcountTrees.{has_refcount, refcount_roots, inodes_of_tree}
 use Rattle.o2_model.specs.Failing.{failing}
 use Rattle.o2_model.specs.Agrees.{AgreesOnOwned}
-use Rattle.o2_model.proofs.Agreeing.{map_agree, filter_agree_on, contains_filter}
+use Rattle.o2_model.proofs.Agreeing.{map_agree, filter_agree_on}
+use Rattle.o2_model.proofs.Members.{contains_filter}
 use Rattle.o2_model.proofs.OwnedTells.{dinode_same}
 use Rattle.o2_model.proofs.OwnedTables.{owned_tell_inodes}
 

@@ -1,11 +1,11 @@
 -- Where nothing fails, the inodes that the tree meets are inodes, and blocks that agree on the owned ones share the same clusters.
-use Rattle.std.proofs.Common.{◌≡◌, ◌⊎◌, inl, inr, ℕ, true, ◌==◌, nat_lt, List, [], ◌∷◌, map, sym, ◌∙◌, ap, subst, arith}
+use Rattle.std.proofs.Common.{◌≡◌, ℕ, true, ◌==◌, List, [], map, sym, ◌∙◌, ap, subst}
 use Rattle.std.specs.Prelude.{filter, flat_map}
 use Rattle.std.specs.FinMap as finite
 use Rattle.std.specs.List.{Contains}
 use Rattle.std.specs.Ordering.{nat_cmp}
-use Rattle.std.proofs.lemmas.Bool.{cases_Bool, eqb-true}
-use Rattle.o2_model.specs.Orders.{with_number, rising}
+use Rattle.std.proofs.lemmas.Bool.{eqb-true}
+use Rattle.o2_model.specs.Orders.{rising}
 use Rattle.o2_model.specs.Volume.{Volume, over}
 use Rattle.o2_model.specs.LeafRecords.{clusters_under, is_refcounted}
 use Rattle.o2_model.specs.Files.{shared_references, shared_clusters, times_in}
@@ -13,36 +13,12 @@ use Rattle.o2_model.specs.Groups.{is_inode}
 use Rattle.o2_model.specs.Tree.{tree_walk, met_inodes}
 use Rattle.o2_model.specs.Failing.{failing}
 use Rattle.o2_model.specs.Agrees.{AgreesOnOwned}
-use Rattle.o2_model.proofs.Found.{any_map, passing, each_of, contains_first, contains_later}
-use Rattle.o2_model.proofs.Agreeing.{flat_map_agree, contains_cases, contains_one, contains_among}
+use Rattle.o2_model.proofs.Found.{any_map, passing, each_of}
+use Rattle.o2_model.proofs.Agreeing.{flat_map_agree}
+use Rattle.o2_model.proofs.Members.{contains_among, contains_rising}
 use Rattle.o2_model.proofs.OwnedTree.{owned_tell_tree}
 use Rattle.o2_model.proofs.OwnedFiles.{IsReadable, tree_named}
 use Rattle.o2_model.proofs.MetadataKeeps.{owned_tell_records}
-
--- ---- numbers in order
-contains_with_number : (n : ℕ) (ms : List ℕ) (b : ℕ) → Contains (with_number n ms) b → (n ≡ b) ⊎ Contains ms b
-contains_with_number n [] b is = inl (contains_one n b is)
-contains_with_number n (m ∷ ms) b is = elim (cases_Bool (nat_lt n m)) [
-  | inl low ↦ contains_cases n b (m ∷ ms) (rw low at is)
-  | inr high ↦ elim (cases_Bool (n == m)) [
-    | inl same ↦ inr (rw (high, same) at is)
-    | inr other ↦ elim (contains_cases m b (with_number n ms) (rw (high, other) at is)) [
-      | inl here ↦ inr (subst (λ x. Contains (m ∷ ms) x) here (contains_first m ms))
-      | inr there ↦ elim (contains_with_number n ms b there) [
-        | inl new ↦ inl new
-        | inr old ↦ inr (contains_later m b ms old)
-      ]
-    ]
-  ]
-]
-
--- what the rising numbers have is of the list
-pub contains_rising : (ns : List ℕ) (b : ℕ) → Contains (rising ns) b → Contains ns b
-contains_rising [] b is = is
-contains_rising (n ∷ ns) b is = elim (contains_with_number n (rising ns) b is) [
-  | inl here ↦ subst (λ x. Contains (n ∷ ns) x) here (contains_first n ns)
-  | inr there ↦ contains_later n b ns (contains_rising ns b there)
-]
 
 -- ---- the inodes that the tree meets
 pub met_is_readable : (v : Volume) (b : ℕ) → failing v ≡ [] → Contains (met_inodes v) b → IsReadable v b
@@ -61,7 +37,8 @@ owned_tell_met_inodes v at none agrees = ap (λ w. rising (map (λ n. n.1) w.nam
 pub owned_tell_references : (v : Volume) (at : ℕ → List ℕ) (i : ℕ) → failing v ≡ [] → AgreesOnOwned v at → is_inode v i ≡ true → shared_references (over v at) i ≡ shared_references v i
 owned_tell_references v at i none agrees is = ap (λ rs. flat_map (clusters_under v) (filter is_refcounted rs)) (owned_tell_records v at i none agrees is)
 
-met_references_same : (v : Volume) (at : ℕ → List ℕ) → failing v ≡ [] → AgreesOnOwned v at → flat_map (shared_references (over v at)) (met_inodes (over v at)) ≡ flat_map (shared_references v) (met_inodes v)
+met_references_same : (v : Volume) (at : ℕ → List ℕ) → failing v ≡ [] → AgreesOnOwned v at
+    → flat_map (shared_references (over v at)) (met_inodes (over v at)) ≡ flat_map (shared_references v) (met_inodes v)
 met_references_same v at none agrees =
     ap (flat_map (shared_references (over v at))) (owned_tell_met_inodes v at none agrees)
     ∙ flat_map_agree (shared_references (over v at)) (shared_references v) (met_inodes v) (λ i is. owned_tell_references v at i none agrees (met_is_readable v i none is).inode)
