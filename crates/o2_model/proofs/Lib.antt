@@ -21,6 +21,7 @@ pub mod SameAllocators
 pub mod BitPlaces
 pub mod Found
 pub mod Agreeing
+pub mod Members
 pub mod OwnedBlocks
 pub mod GoodGroups
 pub mod GroupsOwned
@@ -37,3 +38,11 @@ pub mod GroupChecksKeep
 pub mod JournalsKeep
 pub mod OdditiesKeep
 pub mod SkeletonKeeps
+pub mod RootsKeep
+pub mod BlockNames
+pub mod RefcountsKeep
+pub mod MetadataKeeps
+pub mod SharingKeeps
+pub mod RefcountChecksKeep
+pub mod MetadataChecksKeep
+pub mod LeafBlocksKeep

@@ -23,11 +23,11 @@ use Rattle.o2_model.proofs.OwnedTree.{owned_tell_tree}
 
 -- ---- what has a name
 -- an inode that is no journal
-record IsReadable (v : Volume) (b : ℕ) : Type 0 where
-  inode : is_inode v b ≡ true
-  apart : among (journals v) b ≡ false
+pub record IsReadable (v : Volume) (b : ℕ) : Type 0 where
+  pub inode : is_inode v b ≡ true
+  pub apart : among (journals v) b ≡ false
 
-abbrev AllReadable : Volume → List (List (List ℕ) × ℕ) → Type 0
+abbrev pub AllReadable : Volume → List (List (List ℕ) × ℕ) → Type 0
 AllReadable v names = AllByRecursion (λ n. IsReadable v n.1) names
 
 users_inode : (v : Volume) (e : Entry) → names_users v e ≡ true → is_inode v e.inode ≡ true
@@ -69,7 +69,7 @@ walk_named : (v : Volume) (k : ℕ) → failing v ≡ [] → AllReadable v (walk
 walk_named v zero none = (record { inode = root_is_inode v none; apart = directory_apart v v.geo.root none (root_is_directory v none) }, tt)
 walk_named v (suc k) none = step_named v (walk_after v k) (slice_get (walk_after v k).entered k) none (walk_named v k none)
 
-tree_named : (v : Volume) → failing v ≡ [] → AllReadable v (tree_walk v).names
+pub tree_named : (v : Volume) → failing v ≡ [] → AllReadable v (tree_walk v).names
 unfolding tree_walk
 tree_named v none = walk_named v (blocks v) none
 

@@ -23,24 +23,23 @@ use Rattle.o2_model.proofs.NothingFails.{no_check_fails}
 use Rattle.o2_model.proofs.Readings.{extents_same, faults_of_own_list}
 use Rattle.o2_model.proofs.SameEntries.{dir_blocks_same, entries_same}
 use Rattle.o2_model.proofs.SameContents.{content_same, file_same}
-use Rattle.o2_model.proofs.Found.{append_nothing, any_flat, passing, each_of}
+use Rattle.o2_model.proofs.Found.{append_nothing, any_flat, each_of}
 use Rattle.o2_model.proofs.Agreeing.{filter_contains}
+use Rattle.o2_model.proofs.Members.{among_contains}
 use Rattle.o2_model.proofs.WellRead.{extents_well, extent_blocks_are}
 use Rattle.o2_model.proofs.BitsOwned.{dinode_owned, metadata_owned}
 use Rattle.o2_model.proofs.DataOwned.{among_inodes, content_owned, directory_owned}
 
 -- ---- checks
-each_nothing : {A B : Type 0} (f : A → List B) (xs : List A) → flat_map f xs ≡ [] → AllByRecursion (λ x. f x ≡ []) xs
+pub each_nothing : {A B : Type 0} (f : A → List B) (xs : List A) → flat_map f xs ≡ [] → AllByRecursion (λ x. f x ≡ []) xs
 each_nothing f [] h = tt
 each_nothing f (x ∷ xs) h =
     let parts = append_nothing (f x) (flat_map f xs) h in
     (parts.0, each_nothing f xs parts.1)
 
--- what holds of each inode of the list
-inode_listed : (v : Volume) (i : ℕ) → is_inode v i ≡ true → Contains (inodes_of v) i
-inode_listed v i is =
-    let at = passing (λ b. i == b) (inodes_of v) (among_inodes v i (λ b. i == b) is (eq-eqb i i refl)) in
-    subst (Contains (inodes_of v)) (sym (eqb-true i at.item at.passes)) at.inside
+-- an inode is one of the list
+pub inode_listed : (v : Volume) (i : ℕ) → is_inode v i ≡ true → Contains (inodes_of v) i
+inode_listed v i is = among_contains (inodes_of v) i (among_inodes v i (λ b. i == b) is (eq-eqb i i refl))
 
 pub listed_is_inode : (v : Volume) (i : ℕ) → Contains (inodes_of v) i → is_inode v i ≡ true
 unfolding inodes_of
@@ -50,16 +49,16 @@ extents_hold : (v : Volume) → failing v ≡ [] → flat_map (extent_faults v) 
 unfolding faults
 extents_hold v none = no_check_fails v none check.Extent
 
-metadata_holds : (v : Volume) → failing v ≡ [] → meta_block_faults v ≡ []
+pub metadata_holds : (v : Volume) → failing v ≡ [] → meta_block_faults v ≡ []
 unfolding faults
 metadata_holds v none = no_check_fails v none check.MetaBlock
 
-no_extent_fault : (v : Volume) (i : ℕ) → failing v ≡ [] → is_inode v i ≡ true → (extents v i).faults ≡ []
+pub no_extent_fault : (v : Volume) (i : ℕ) → failing v ≡ [] → is_inode v i ≡ true → (extents v i).faults ≡ []
 no_extent_fault v i none is =
     sym (faults_of_own_list v i) ∙ each_of (λ b. extent_faults v b ≡ []) (inodes_of v) i (each_nothing (extent_faults v) (inodes_of v) (extents_hold v none)) (inode_listed v i is)
 
 -- ---- extents
-extent_block_listed : (v : Volume) (i b : ℕ) → is_inode v i ≡ true → among (extents v i).blocks b ≡ true → among (metadata_blocks v) b ≡ true
+pub extent_block_listed : (v : Volume) (i b : ℕ) → is_inode v i ≡ true → among (extents v i).blocks b ≡ true → among (metadata_blocks v) b ≡ true
 unfolding metadata_blocks list_blocks
 extent_block_listed v i b is h =
     list_any-append (λ m. b == m) (flat_map (extent_blocks_of v) (inodes_of v)) (refcount_blocks v)

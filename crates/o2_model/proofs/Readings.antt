@@ -13,14 +13,14 @@ use Rattle.o2_model.specs.Checks.Extent.{extent_faults}
 use Rattle.o2_model.specs.Inodes.{is_directory, extents, has_list, most_flags, extent_lists_of, most_in_dinode}
 
 -- ---- what a reading keeps of what was read before
-record Grows (t u : Extents) : Type 0 where
-  seen : (b : ℕ) → among t.seen b ≡ true → among u.seen b ≡ true
-  faults : u.faults ≡ [] → t.faults ≡ []
+pub record Grows (t u : Extents) : Type 0 where
+  pub seen : (b : ℕ) → among t.seen b ≡ true → among u.seen b ≡ true
+  pub faults : u.faults ≡ [] → t.faults ≡ []
 
-grows_none : (t : Extents) → Grows t t
+pub grows_none : (t : Extents) → Grows t t
 grows_none t = record { seen = λ b h. h; faults = λ h. h }
 
-grows_both : {t u s : Extents} → Grows t u → Grows u s → Grows t s
+pub grows_both : {t u s : Extents} → Grows t u → Grows u s → Grows t s
 grows_both g h = record { seen = λ b k. h.seen b (g.seen b k); faults = λ k. g.faults (h.faults k) }
 
 pub push_some : {A : Type 0} (xs : List A) (x : A) → push xs x ≡ [] → ⊥
@@ -33,23 +33,23 @@ among-push bs a b h = list_any-append (λ m. b == m) bs (a ∷ []) ∙ or_left _
 pub among_last : (bs : List ℕ) (b : ℕ) → among (push bs b) b ≡ true
 among_last bs b = list_any-append (λ m. b == m) bs (b ∷ []) ∙ or_right _ _ (or_left _ _ (eq-eqb b b refl))
 
-grows_leaf : (t : Extents) (r : ExtentRec) → Grows t (with_leaf t r)
+pub grows_leaf : (t : Extents) (r : ExtentRec) → Grows t (with_leaf t r)
 grows_leaf t r = record { seen = λ b h. h; faults = λ h. h }
 
-grows_seen : (t : Extents) (a : ℕ) → Grows t (with_seen t a)
+pub grows_seen : (t : Extents) (a : ℕ) → Grows t (with_seen t a)
 grows_seen t a = record { seen = λ b h. among-push t.seen a b h; faults = λ h. h }
 
 grows_block : (t : Extents) (b : ℕ) → Grows t (with_block t b)
 grows_block t b = record { seen = λ c h. h; faults = λ h. h }
 
-grows_fault : (t : Extents) (b : ℕ) → Grows t (with_fault t b)
+pub grows_fault : (t : Extents) (b : ℕ) → Grows t (with_fault t b)
 grows_fault t b = record { seen = λ c h. h; faults = λ h. absurd (push_some t.faults b h) }
 
-grows_cond : (c : Bool) (t u s : Extents) → Grows t u → Grows t s → Grows t (cond c u s)
+pub grows_cond : (c : Bool) (t u s : Extents) → Grows t u → Grows t s → Grows t (cond c u s)
 grows_cond true t u s g h = g
 grows_cond false t u s g h = h
 
-grows_met : (v : Volume) (b : ℕ) (t : Extents) → Grows t (with_met v b t)
+pub grows_met : (v : Volume) (b : ℕ) (t : Extents) → Grows t (with_met v b t)
 unfolding with_met
 grows_met v b t = grows_cond (is_sound_header (most_in_block v) (list_in_block v b).header) t _ _ (grows_block t b) (grows_both (grows_block t b) (grows_fault (with_block t b) b))
 
@@ -69,11 +69,11 @@ reading_grows v m (suc depth) holder low (r ∷ rs) t =
     (grows_both (grows_seen t r.blkno) (grows_fault t' holder)))
 
 -- ---- over other blocks
-same_new : (v : Volume) (at : ℕ → List ℕ) (low : ℕ) (seen : List ℕ) (r : ExtentRec) → names_new_block (over v at) low seen r ≡ names_new_block v low seen r
+pub same_new : (v : Volume) (at : ℕ → List ℕ) (low : ℕ) (seen : List ℕ) (r : ExtentRec) → names_new_block (over v at) low seen r ≡ names_new_block v low seen r
 unfolding names_new_block
 same_new v at low seen r = refl
 
-same_block : (v : Volume) (at : ℕ → List ℕ) (depth b : ℕ) → at b ≡ v.at b → is_extent_block (over v at) depth b ≡ is_extent_block v depth b
+pub same_block : (v : Volume) (at : ℕ → List ℕ) (depth b : ℕ) → at b ≡ v.at b → is_extent_block (over v at) depth b ≡ is_extent_block v depth b
 unfolding is_extent_block
 same_block v at depth b same = rw same refl
 
@@ -81,11 +81,11 @@ same_leaf : (v : Volume) (at : ℕ → List ℕ) (m low : ℕ) (r : ExtentRec) �
 unfolding is_sound_leaf are_clusters_in_range
 same_leaf v at m low r = refl
 
-same_met : (v : Volume) (at : ℕ → List ℕ) (b : ℕ) (t : Extents) → at b ≡ v.at b → with_met (over v at) b t ≡ with_met v b t
+pub same_met : (v : Volume) (at : ℕ → List ℕ) (b : ℕ) (t : Extents) → at b ≡ v.at b → with_met (over v at) b t ≡ with_met v b t
 unfolding with_met
 same_met v at b t same = rw same refl
 
-same_records : (v : Volume) (at : ℕ → List ℕ) (b : ℕ) → at b ≡ v.at b → records_in_block (over v at) b ≡ records_in_block v b
+pub same_records : (v : Volume) (at : ℕ → List ℕ) (b : ℕ) → at b ≡ v.at b → records_in_block (over v at) b ≡ records_in_block v b
 unfolding records_in_block
 same_records v at b same = rw same refl
 
@@ -96,7 +96,7 @@ met_seen v b t = elim (cases_Bool (is_sound_header (most_in_block v) (list_in_bl
   | inr bad ↦ rw bad refl
 ]
 
-same_on_before : {bs cs : List ℕ} {v : Volume} {at : ℕ → List ℕ} → ((b : ℕ) → among bs b ≡ true → among cs b ≡ true) → SameOn cs v at → SameOn bs v at
+pub same_on_before : {bs cs : List ℕ} {v : Volume} {at : ℕ → List ℕ} → ((b : ℕ) → among bs b ≡ true → among cs b ≡ true) → SameOn cs v at → SameOn bs v at
 same_on_before sub same = record { same = λ b h. same.same b (sub b h) }
 
 -- Read without a fault, the records give the same over other blocks that agree on those that were looked at.
@@ -141,7 +141,7 @@ reading_same v at m (suc depth) holder low (r ∷ rs) t same none =
       ]
     ]
 
-same_has_list : (v : Volume) (at : ℕ → List ℕ) (b : ℕ) → at b ≡ v.at b → has_list (over v at) b ≡ has_list v b
+pub same_has_list : (v : Volume) (at : ℕ → List ℕ) (b : ℕ) → at b ≡ v.at b → has_list (over v at) b ≡ has_list v b
 same_has_list v at b same = rw same refl
 
 -- and so does an inode
