@@ -4,6 +4,7 @@ pub mod SuperSector
 pub mod Entries
 pub mod Readings
 pub mod Looks
+pub mod TreeWalks
 pub mod TreeEnds
 pub mod SameTree
 pub mod SameGroups

@@ -66,13 +66,17 @@ followed-same v at same d inside =
     ap (λ es. filter (names_users (over v at)) (filter (λ e. not (is_dot e)) es)) (same.entries d inside)
     ∙ filter_agree (names_users (over v at)) (names_users v) (users_same v at same) (named_entries v d)
 
-directory_same : (v : Volume) (at : ℕ → List ℕ) (b : ℕ) → at b ≡ v.at b → is_directory (over v at) b ≡ is_directory v b
+pub directory_same : (v : Volume) (at : ℕ → List ℕ) (b : ℕ) → at b ≡ v.at b → is_directory (over v at) b ≡ is_directory v b
 unfolding is_directory
 directory_same v at b same = rw same refl
 
 -- The tree is the same.
 pub tree-same : (v : Volume) (at : ℕ → List ℕ) → SameTables v at → tree_walk (over v at) ≡ tree_walk v
-tree-same v at same = tree_walk-same v at (record { kind = λ b inode. directory_same v at b (inode_at_same v at same b inode); entries = followed-same v at same })
+tree-same v at same = tree_walk-same v at (IsIn v) (record {
+  good = record { root = inl refl; named = λ b inode directory. inr inode };
+  kind = λ b inode. directory_same v at b (inode_at_same v at same b inode);
+  entries = followed-same v at same;
+})
 
 -- ---- from blocks to tables
 bits_of_bytes : (v : Volume) (at : ℕ → List ℕ) (b k : ℕ) → at b ≡ v.at b → is_bit_set (over v at) b k ≡ is_bit_set v b k
