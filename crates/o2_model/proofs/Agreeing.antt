@@ -1,7 +1,8 @@
 -- Functions that agree on the members of a list give the same over the list.
-use Rattle.std.proofs.Common.{◌≡◌, ℕ, ◌+◌, Bool, not, cond, List, [], ◌∷◌, map, ap, refl}
+use Rattle.std.proofs.Common.{◌≡◌, ℕ, ◌+◌, Bool, not, cond, List, [], ◌∷◌, map, ap, refl, Option, Some, None}
 use Rattle.std.specs.Prelude.{filter, flat_map, fold, find, count_by, sum_by}
 use Rattle.std.specs.List.{Contains, list_any, list_all}
+use Rattle.std.specs.Option.{option_map_or}
 use Rattle.o2_model.specs.Words.{fails_at}
 use Rattle.o2_model.proofs.Found.{contains_first, contains_later}
 
@@ -42,3 +43,8 @@ count_by_agree p q xs same = sum_by_agree (λ x. cond (p x) 1 0) (λ x. cond (q 
 -- the places of those that lack something
 pub fails_agree : {A : Type 0} (place : A → ℕ) (p q : A → Bool) (xs : List A) → ((x : A) → Contains xs x → p x ≡ q x) → fails_at place p xs ≡ fails_at place q xs
 fails_agree place p q xs same = ap (map place) (filter_agree_on (λ x. not (p x)) (λ x. not (q x)) xs (λ x is. ap not (same x is)))
+
+-- functions that agree on what is there
+pub option_agree : {A B : Type 0} (f g : A → B) (o : Option A) (none : B) → ((x : A) → o ≡ Some x → f x ≡ g x) → option_map_or f o none ≡ option_map_or g o none
+option_agree f g None none same = refl
+option_agree f g (Some x) none same = same x refl

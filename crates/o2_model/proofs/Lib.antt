@@ -31,6 +31,9 @@ pub mod DataOwned
 pub mod OwnedTells
 pub mod SystemOwned
 pub mod OwnedTables
+pub mod OwnedDirectories
 pub mod OwnedTree
 pub mod OwnedFiles
 pub mod OwnedImages
+pub mod InodeChecksKeep
+pub mod DirectoryChecksKeep

@@ -1,10 +1,11 @@
 -- Where nothing fails, blocks that agree on the owned ones have the same files at the paths of the tree.
 use Rattle.std.proofs.Common.{◌≡◌, inl, inr, ℕ, true, false, not, List, [], ◌∷◌, map, refl, ◌∙◌, ap}
 use Rattle.std.specs.FinMap as finite
-use Rattle.std.specs.List.{AllByRecursion}
+use Rattle.std.specs.List.{AllByRecursion, Contains}
 use Rattle.std.specs.Ordering.{nat_cmp}
 use Rattle.std.proofs.lemmas.Bool.{cases_Bool, and_parts, not-true}
 use Rattle.o2_model.specs.Words.{among, push}
+use Rattle.o2_model.specs.Orders.{rising}
 use Rattle.o2_model.specs.Volume.{Volume, over, blocks}
 use Rattle.o2_model.specs.Inodes.{is_directory}
 use Rattle.o2_model.specs.Directories.{Entry, own_inodes}
@@ -12,10 +13,11 @@ use Rattle.o2_model.specs.Files.{File, file_of, files_of}
 use Rattle.o2_model.specs.Groups.{is_inode}
 use Rattle.o2_model.specs.Journals.{journals}
 use Rattle.o2_model.specs.Frames.{entered_inodes as inodes_entered}
-use Rattle.o2_model.specs.Tree.{TreeWalk, names_users, tree_walk}
+use Rattle.o2_model.specs.Tree.{TreeWalk, names_users, tree_walk, met_inodes}
 use Rattle.o2_model.specs.Failing.{failing}
 use Rattle.o2_model.specs.Agrees.{AgreesOnOwned}
-use Rattle.o2_model.proofs.Found.{all_push}
+use Rattle.o2_model.proofs.Found.{all_map, all_push, each_of}
+use Rattle.o2_model.proofs.Rising.{all_rising}
 use Rattle.o2_model.proofs.TreeWalks.{Keeps, users_inode, walk_keeps}
 use Rattle.o2_model.proofs.SystemOwned.{root_is_inode, root_is_directory, directory_apart, users_apart}
 use Rattle.o2_model.proofs.OwnedTells.{owned_tell_file}
@@ -53,6 +55,16 @@ unfolding tree_walk
 tree_named v none =
     walk_keeps v (λ w. AllReadable v w.names) (follow_named v none)
     (record { inode = root_is_inode v none; apart = directory_apart v v.geo.root none (root_is_directory v none) }, tt) (blocks v)
+
+pub owned_tell_met_inodes : (v : Volume) (at : ℕ → List ℕ) → failing v ≡ [] → AgreesOnOwned v at → met_inodes (over v at) ≡ met_inodes v
+unfolding met_inodes
+owned_tell_met_inodes v at none agrees = ap (λ (w : TreeWalk). rising (map (λ n. n.1) w.names)) (owned_tell_tree v at none agrees)
+
+pub met_readable : (v : Volume) (b : ℕ) → failing v ≡ [] → Contains (met_inodes v) b → IsReadable v b
+unfolding met_inodes
+met_readable v b none is =
+    let names = (tree_walk v).names in
+    each_of (IsReadable v) (rising (map (λ n. n.1) names)) b (all_rising (IsReadable v) (map (λ n. n.1) names) (all_map (IsReadable v) (λ n. n.1) names (tree_named v none))) is
 
 -- ---- files
 -- the files of these names

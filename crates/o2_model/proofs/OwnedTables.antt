@@ -24,7 +24,7 @@ use Rattle.o2_model.specs.Agrees.{AgreesOnOwned}
 use Rattle.o2_model.proofs.NothingFails.{no_check_fails}
 use Rattle.o2_model.proofs.SameGroups.{groups_keep}
 use Rattle.o2_model.proofs.SameAllocators.{allocators_same}
-use Rattle.o2_model.proofs.Found.{any_map, any_flat, passing}
+use Rattle.o2_model.proofs.Found.{any_map, any_flat, contains_filter, passing}
 use Rattle.o2_model.proofs.Agreeing.{any_agree}
 use Rattle.o2_model.proofs.GroupsOwned.{descriptor_owned}
 use Rattle.o2_model.proofs.BitsOwned.{inode_bit_owned}
@@ -119,3 +119,8 @@ owned_tell_inode v at b none agrees = elim (cases_Bool (has_bit v b)) [
 pub owned_tell_inodes : (v : Volume) (at : ℕ → List ℕ) → failing v ≡ [] → AgreesOnOwned v at → inodes_of (over v at) ≡ inodes_of v
 unfolding inodes_of
 owned_tell_inodes v at none agrees = filter_agree (is_inode (over v at)) (is_inode v) (λ b. owned_tell_inode v at b none agrees) (range_with_len 0 (blocks v))
+
+-- each of them is one
+pub listed_inode : (v : Volume) (b : ℕ) → Contains (inodes_of v) b → is_inode v b ≡ true
+unfolding inodes_of
+listed_inode v b is = (contains_filter (is_inode v) (range_with_len 0 (blocks v)) b is).1

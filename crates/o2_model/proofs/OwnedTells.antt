@@ -8,7 +8,7 @@ use Rattle.o2_model.specs.declared.check.Check.TheVariants as check
 use Rattle.o2_model.specs.Words.{among}
 use Rattle.o2_model.specs.Volume.{Volume, over}
 use Rattle.o2_model.specs.Inodes.{extents, extent_blocks_of}
-use Rattle.o2_model.specs.Directories.{directory_entries}
+use Rattle.o2_model.specs.Directories.{dir_blocks, entries_of_block, directory_entries}
 use Rattle.o2_model.specs.Contents.{content_of}
 use Rattle.o2_model.specs.Files.{file_of}
 use Rattle.o2_model.specs.Journals.{journals}
@@ -21,7 +21,7 @@ use Rattle.o2_model.specs.Owned.{is_owned}
 use Rattle.o2_model.specs.Agrees.{AgreesOnOwned}
 use Rattle.o2_model.proofs.NothingFails.{no_check_fails}
 use Rattle.o2_model.proofs.Readings.{extents_same, faults_of_own_list}
-use Rattle.o2_model.proofs.SameEntries.{entries_same}
+use Rattle.o2_model.proofs.SameEntries.{dir_blocks_same}
 use Rattle.o2_model.proofs.SameContents.{content_same, file_same}
 use Rattle.o2_model.proofs.Found.{append_nothing, any_flat, passing, each_of}
 use Rattle.o2_model.proofs.WellRead.{extents_well, extent_blocks_are}
@@ -79,10 +79,15 @@ owned_tell_extents v at i none agrees is =
     }) (no_extent_fault v i none is)
 
 -- ---- entries and contents
-pub owned_tell_entries : (v : Volume) (at : ℕ → List ℕ) (d : ℕ) → failing v ≡ [] → AgreesOnOwned v at → is_inode v d ≡ true → among (journals v) d ≡ false → directory_entries (over v at) d ≡ directory_entries v d
-owned_tell_entries v at d none agrees is apart =
-    entries_same v at d (dinode_same v at d agrees is) (owned_tell_extents v at d none agrees is)
+pub owned_tell_dir_blocks : (v : Volume) (at : ℕ → List ℕ) (d : ℕ) → failing v ≡ [] → AgreesOnOwned v at → is_inode v d ≡ true → among (journals v) d ≡ false → dir_blocks (over v at) d ≡ dir_blocks v d
+owned_tell_dir_blocks v at d none agrees is apart =
+    dir_blocks_same v at d (dinode_same v at d agrees is) (owned_tell_extents v at d none agrees is)
     (record { same = λ b h. agrees.same b (directory_owned v d b is apart h) })
+
+pub owned_tell_entries : (v : Volume) (at : ℕ → List ℕ) (d : ℕ) → failing v ≡ [] → AgreesOnOwned v at → is_inode v d ≡ true → among (journals v) d ≡ false → directory_entries (over v at) d ≡ directory_entries v d
+unfolding directory_entries
+owned_tell_entries v at d none agrees is apart =
+    ap (flat_map entries_of_block) (owned_tell_dir_blocks v at d none agrees is apart)
 
 pub owned_tell_content : (v : Volume) (at : ℕ → List ℕ) (i : ℕ) → failing v ≡ [] → AgreesOnOwned v at → is_inode v i ≡ true → among (journals v) i ≡ false → content_of (over v at) i ≡ content_of v i
 owned_tell_content v at i none agrees is apart =
