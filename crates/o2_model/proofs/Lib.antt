@@ -37,3 +37,5 @@ pub mod OwnedFiles
 pub mod OwnedImages
 pub mod InodeChecksKeep
 pub mod DirectoryChecksKeep
+pub mod TreeChecksKeep
+pub mod OrphanChecksKeep
