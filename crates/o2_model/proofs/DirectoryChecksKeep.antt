@@ -1,4 +1,5 @@
--- Where nothing fails, the checks of each directory's blocks and names fail nowhere new over blocks that agree on the owned ones.
+-- Where nothing fails, the checks of each directory's blocks and names fail at the same blocks over blocks that agree on the owned
+-- ones.
 use Rattle.std.proofs.Common.{◌≡◌, ℕ, List, [], map, ◌∙◌, ap}
 use Rattle.std.specs.Prelude.{flat_map, filter}
 use Rattle.o2_model.specs.declared.check.Check.TheVariants as check
@@ -20,15 +21,19 @@ use Rattle.o2_model.proofs.OwnedTells.{dinode_same}
 use Rattle.o2_model.proofs.OwnedTables.{owned_tell_inodes, listed_inode}
 use Rattle.o2_model.proofs.OwnedDirectories.{IsDirectoryInode, blocks_of_directory, entries_of_directory, names_of_directory}
 
--- ---- what is judged alike of each directory
-each_directory_keeps : (v : Volume) (at : ℕ → List ℕ) (faults_of : Volume → ℕ → List ℕ) → failing v ≡ [] → AgreesOnOwned v at
+-- what is judged alike of each directory
+directories_same : (v : Volume) (at : ℕ → List ℕ) → failing v ≡ [] → AgreesOnOwned v at → filter (is_directory (over v at)) (inodes_of (over v at)) ≡ filter (is_directory v) (inodes_of v)
+directories_same v at none agrees =
+    ap (filter (is_directory (over v at))) (owned_tell_inodes v at none agrees)
+    ∙ filter_agree_on (is_directory (over v at)) (is_directory v) (inodes_of v) (λ b is. directory_same v at b (dinode_same v at b agrees (listed_inode v b is)))
+
+pub each_directory_keeps : (v : Volume) (at : ℕ → List ℕ) (faults_of : Volume → ℕ → List ℕ) → failing v ≡ [] → AgreesOnOwned v at
     → ((d : ℕ) → IsDirectoryInode v d → faults_of (over v at) d ≡ faults_of v d) → of_each_directory (over v at) faults_of ≡ of_each_directory v faults_of
 each_directory_keeps v at faults_of none agrees same =
-    ap (λ bs. flat_map (faults_of (over v at)) (filter (is_directory (over v at)) bs)) (owned_tell_inodes v at none agrees)
-    ∙ (ap (flat_map (faults_of (over v at))) (filter_agree_on (is_directory (over v at)) (is_directory v) (inodes_of v) (λ b is. directory_same v at b (dinode_same v at b agrees (listed_inode v b is))))
+    ap (flat_map (faults_of (over v at))) (directories_same v at none agrees)
     ∙ flat_map_agree (faults_of (over v at)) (faults_of v) (filter (is_directory v) (inodes_of v)) (λ d is.
     let parts = contains_filter (is_directory v) (inodes_of v) d is in
-    same d (record { inode = listed_inode v d parts.0; directory = parts.1 })))
+    same d (record { inode = listed_inode v d parts.0; directory = parts.1 }))
 
 pub keeps_dir_block : (v : Volume) (at : ℕ → List ℕ) → failing v ≡ [] → AgreesOnOwned v at → faults (over v at) check.DirBlock ≡ faults v check.DirBlock
 unfolding faults

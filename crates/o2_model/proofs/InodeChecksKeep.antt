@@ -1,15 +1,16 @@
--- Where nothing fails, the checks of each inode's dinode, extents and size fail nowhere new over blocks that agree on the owned ones.
+-- Where nothing fails, the checks of each inode's kind, extents, size and clusters fail at the same blocks over blocks that agree
+-- on the owned ones.
 use Rattle.std.proofs.Common.{◌≡◌, ℕ, ◌/◌, cond, inl, inr, true, false, ◌==◌, List, [], refl, sym, ◌∙◌, ap, Option, Some, None}
 use Rattle.std.specs.Prelude.{filter, flat_map, find, sum_by}
 use Rattle.std.specs.Option.{option_map_or}
+use Rattle.std.proofs.lemmas.Bool.{cases_Bool}
 use Rattle.o2_ondisk.specs.declared.kind.Kind.{Kind}
 use Rattle.o2_ondisk.specs.declared.kind.Kind.TheVariants.{File, Directory, Character, Block, Fifo, Socket, Link}
-use Rattle.std.proofs.lemmas.Bool.{cases_Bool}
 use Rattle.o2_model.specs.declared.check.Check.TheVariants as check
 use Rattle.o2_model.specs.declared.allocator.Allocator.{Allocator}
 use Rattle.o2_model.specs.Words.{fails_unless}
 use Rattle.o2_model.specs.Volume.{Volume, over, per_cluster}
-use Rattle.o2_model.specs.Extents.{leaf_clusters}
+use Rattle.o2_model.specs.Extents.{Extents, leaf_clusters}
 use Rattle.o2_model.specs.Inodes.{kind, is_directory, is_directory_kind, is_inline, extents, leaf_records}
 use Rattle.o2_model.specs.Directories.{dir_blocks, own_inodes}
 use Rattle.o2_model.specs.Allocators.{are_clusters, allocators}
@@ -29,7 +30,7 @@ use Rattle.o2_model.proofs.OwnedDirectories.{blocks_of_directory}
 use Rattle.o2_model.proofs.OwnedTables.{owned_tell_system_files, owned_tell_groups, owned_tell_inodes, listed_inode}
 
 -- what is judged alike of each inode
-each_inode_keeps : (v : Volume) (at : ℕ → List ℕ) (faults_of : Volume → ℕ → List ℕ) → failing v ≡ [] → AgreesOnOwned v at
+pub each_inode_keeps : (v : Volume) (at : ℕ → List ℕ) (faults_of : Volume → ℕ → List ℕ) → failing v ≡ [] → AgreesOnOwned v at
     → ((b : ℕ) → is_inode v b ≡ true → faults_of (over v at) b ≡ faults_of v b) → of_each_inode (over v at) faults_of ≡ of_each_inode v faults_of
 each_inode_keeps v at faults_of none agrees same =
     ap (flat_map (faults_of (over v at))) (owned_tell_inodes v at none agrees)
@@ -86,12 +87,18 @@ group_total_same : (v : Volume) (at : ℕ → List ℕ) (a : Allocator) → grou
 group_total_same v at a walk =
     ap (λ (w : GroupWalk). cond (are_clusters a.bit_use) v.geo.clusters (sum_by (λ g. g.bits / per_cluster v) (filter (λ g. g.of.block == a.block) w.groups))) walk
 
+-- the allocator whose dinode is there
+abbrev allocator_at : ℕ → List Allocator → Option Allocator
+allocator_at b more = find (λ a. a.block == b) more
+
 cluster_total_same : (v : Volume) (at : ℕ → List ℕ) (b : ℕ) → failing v ≡ [] → AgreesOnOwned v at → is_inode v b ≡ true → cluster_total (over v at) b ≡ cluster_total v b
 unfolding cluster_total
 cluster_total_same v at b none agrees is =
-    ap (λ more. option_map_or (allocator_clusters (over v at)) (find (λ (a : Allocator). a.block == b) more) (sum_by leaf_clusters (leaf_records (over v at) b))) (allocators_same v at (owned_tell_system_files v at none agrees))
-    ∙ (ap (λ t. option_map_or (allocator_clusters (over v at)) (find (λ (a : Allocator). a.block == b) (allocators v)) (sum_by leaf_clusters t.leaves)) (owned_tell_extents v at b none agrees is)
-    ∙ option_agree (allocator_clusters (over v at)) (allocator_clusters v) (find (λ (a : Allocator). a.block == b) (allocators v)) (sum_by leaf_clusters (leaf_records v b)) (λ a found. group_total_same v at a (owned_tell_groups v at none agrees)))
+    let total = λ (u : Volume) (more : List Allocator) (t : Extents). option_map_or (allocator_clusters u) (allocator_at b more) (sum_by leaf_clusters t.leaves) in
+    ap (λ more. total (over v at) more (extents (over v at) b)) (allocators_same v at (owned_tell_system_files v at none agrees))
+    ∙ (ap (total (over v at) (allocators v)) (owned_tell_extents v at b none agrees is)
+    ∙ option_agree (allocator_clusters (over v at)) (allocator_clusters v) (allocator_at b (allocators v)) (sum_by leaf_clusters (leaf_records v b))
+    (λ a found. group_total_same v at a (owned_tell_groups v at none agrees)))
 
 has_total_same : (v : Volume) (at : ℕ → List ℕ) (b : ℕ) → at b ≡ v.at b → cluster_total (over v at) b ≡ cluster_total v b → has_cluster_total (over v at) b ≡ has_cluster_total v b
 unfolding has_cluster_total

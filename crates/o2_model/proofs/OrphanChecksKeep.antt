@@ -1,4 +1,5 @@
--- Where nothing fails, the checks of orphans and of what has no name fail nowhere new over blocks that agree on the owned ones.
+-- Where nothing fails, the checks of orphans and of what has no name fail at the same blocks over blocks that agree on the
+-- owned ones.
 use Rattle.std.proofs.Common.{◌≡◌, inl, inr, ℕ, Bool, not, ◌||◌, ◌&&◌, ◌==◌, List, [], ◌++◌, map, refl, ◌∙◌, ap, Some}
 use Rattle.std.specs.List.{list_any}
 use Rattle.std.specs.Option.{option_map_or}

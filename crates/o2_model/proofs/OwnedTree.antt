@@ -1,12 +1,10 @@
 -- Where nothing fails, blocks that agree on the owned ones have the same tree.
-use Rattle.std.proofs.Common.{◌≡◌, inl, inr, ℕ, List, [], map, refl, ◌∙◌, ap}
+use Rattle.std.proofs.Common.{◌≡◌, ℕ, List, [], map, ◌∙◌, ap}
 use Rattle.std.specs.Prelude.{filter, flat_map}
 use Rattle.std.specs.List.{AllByRecursion, Contains}
-use Rattle.std.proofs.lemmas.Bool.{cases_Bool}
 use Rattle.std.proofs.lemmas.List.Elements.{filter_agree}
 use Rattle.o2_model.specs.Volume.{Volume, over, blocks}
 use Rattle.o2_model.specs.Directories.{Entry, directory_entries, named_entries}
-use Rattle.o2_model.specs.Groups.{is_inode}
 use Rattle.o2_model.specs.Tree.{TreeWalk, names_users, followed, tree_walk, tree_directories, tree_entries}
 use Rattle.o2_model.specs.Failing.{failing}
 use Rattle.o2_model.specs.Agrees.{AgreesOnOwned}
@@ -17,7 +15,7 @@ use Rattle.o2_model.proofs.SystemOwned.{root_is_inode, root_is_directory}
 use Rattle.o2_model.proofs.OwnedTells.{dinode_same}
 use Rattle.o2_model.proofs.OwnedDirectories.{IsDirectoryInode, entries_of_directory, names_of_directory}
 use Rattle.o2_model.proofs.SameTree.{tree_walk-same}
-use Rattle.o2_model.proofs.SameInodes.{directory_same}
+use Rattle.o2_model.proofs.SameInodes.{users_same, directory_same}
 use Rattle.o2_model.proofs.TreeWalks.{StaysGood, walk_good}
 use Rattle.o2_model.proofs.OwnedTables.{owned_tell_system_files, owned_tell_inode}
 
@@ -28,17 +26,14 @@ stays_in_directories v none = record {
   named = λ b is directory. record { inode = is; directory = directory };
 }
 
-pub users_same : (v : Volume) (at : ℕ → List ℕ) → failing v ≡ [] → AgreesOnOwned v at → (e : Entry) → names_users (over v at) e ≡ names_users v e
-unfolding names_users
-users_same v at none agrees e = elim (cases_Bool (is_inode v e.inode)) [
-  | inl there ↦ rw (owned_tell_inode v at e.inode none agrees, own_same v at (owned_tell_system_files v at none agrees), dinode_same v at e.inode agrees there) refl
-  | inr absent ↦ rw (owned_tell_inode v at e.inode none agrees, absent) refl
-]
+pub owned_tell_users : (v : Volume) (at : ℕ → List ℕ) → failing v ≡ [] → AgreesOnOwned v at → (e : Entry) → names_users (over v at) e ≡ names_users v e
+owned_tell_users v at none agrees e =
+    users_same v at e (owned_tell_inode v at e.inode none agrees) (own_same v at (owned_tell_system_files v at none agrees)) (dinode_same v at e.inode agrees)
 
 followed_same : (v : Volume) (at : ℕ → List ℕ) → failing v ≡ [] → AgreesOnOwned v at → (d : ℕ) → IsDirectoryInode v d → followed (over v at) d ≡ followed v d
 followed_same v at none agrees d is =
     ap (filter (names_users (over v at))) (names_of_directory v at d none agrees is)
-    ∙ filter_agree (names_users (over v at)) (names_users v) (users_same v at none agrees) (named_entries v d)
+    ∙ filter_agree (names_users (over v at)) (names_users v) (owned_tell_users v at none agrees) (named_entries v d)
 
 -- The tree is the same.
 pub owned_tell_tree : (v : Volume) (at : ℕ → List ℕ) → failing v ≡ [] → AgreesOnOwned v at → tree_walk (over v at) ≡ tree_walk v

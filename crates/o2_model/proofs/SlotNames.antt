@@ -27,7 +27,7 @@ number-name file slot = ap decimal_number (last_four file slot) ∙ number-digit
 same_bytes : (xs : List ℕ) → bytes_eq xs xs ≡ true
 same_bytes xs = (bytes_eq-Decides xs xs).1 refl
 
--- four digits tell a slot up to 10000
+-- four digits do not tell slots apart that differ by 10000
 same_digits : (slot : ℕ) → slot_digits (slot % 10000) ≡ slot_digits slot
 same_digits slot =
     let thousands : slot % 10000 / 1000 % 10 ≡ slot / 1000 % 10 = omega arith in
@@ -40,12 +40,13 @@ same_name : (file : SlotFile) (slot : ℕ) → system_name (OfSlot file (slot % 
 unfolding system_name
 same_name file slot = ap (λ digits. slot_file_name file ++ codes ":" ++ digits) (same_digits slot)
 
-pub slot_told_among : (file : SlotFile) (slot : ℕ) → slot_in_name file (system_name (OfSlot file slot)) ≡ Some (slot % 10000)
+-- a name of four digits tells what they tell
+pub slot_told_by_digits : (file : SlotFile) (slot : ℕ) → slot_in_name file (system_name (OfSlot file slot)) ≡ Some (slot % 10000)
 unfolding slot_in_name
-slot_told_among file slot = rw (number-name file slot, same_name file slot, same_bytes (system_name (OfSlot file slot))) refl
+slot_told_by_digits file slot = rw (number-name file slot, same_name file slot, same_bytes (system_name (OfSlot file slot))) refl
 
 pub slot_told : (file : SlotFile) (slot : ℕ) → slot < 10000 → slot_in_name file (system_name (OfSlot file slot)) ≡ Some slot
-slot_told file slot small = let number : slot % 10000 ≡ slot = omega arith in slot_told_among file slot ∙ ap (λ n. Some n) number
+slot_told file slot small = let number : slot % 10000 ≡ slot = omega arith in slot_told_by_digits file slot ∙ ap (λ n. Some n) number
 
 chosen : (test : Bool) (n slot : ℕ) → cond test (Some n) None ≡ Some slot → (test ≡ true) × (n ≡ slot)
 chosen true n slot h = (refl, ap (λ o. unwrap_or o n) h)

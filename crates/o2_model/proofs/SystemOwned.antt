@@ -23,7 +23,7 @@ use Rattle.o2_model.specs.Checks.Root.{is_sound_root, root_faults}
 use Rattle.o2_model.specs.Checks.Sysfile.{has_system_files, is_name_of_slot, has_kind_of_name, is_sound_system_entry, system_entries, sysfile_faults}
 use Rattle.o2_model.specs.Failing.{faults, failing}
 use Rattle.o2_model.proofs.NothingFails.{no_check_fails}
-use Rattle.o2_model.proofs.SlotNames.{slot_only, slot_told_among}
+use Rattle.o2_model.proofs.SlotNames.{slot_only, slot_told_by_digits}
 use Rattle.o2_model.proofs.Failing.{none_fails}
 use Rattle.o2_model.proofs.Found.{append_nothing, found, any_map, any_filter, passing, any_flat, find_passing, each_of}
 
@@ -160,7 +160,7 @@ unfolding has_kind_of_name
 orphan_directory_is v slot b none h =
     let named = named_file v (OfSlot OrphanDir slot) b none h in
     let told : is_name_of_slot OrphanDir named.entry ≡ true
-    = ap (λ name. is_some (slot_in_name OrphanDir name)) (name_is named.entry (system_name (OfSlot OrphanDir slot)) named.name) ∙ ap is_some (slot_told_among OrphanDir slot) in
+    = ap (λ name. is_some (slot_in_name OrphanDir name)) (name_is named.entry (system_name (OfSlot OrphanDir slot)) named.name) ∙ ap is_some (slot_told_by_digits OrphanDir slot) in
     subst (λ x. is_directory v x ≡ true) named.inode (and_parts (is_directory v named.entry.inode) _ (sym (cond-true (is_name_of_slot OrphanDir named.entry) _ _ told) ∙ (sound_parts v named.entry named.sound).1)).0
 
 -- ---- journals

@@ -1,7 +1,8 @@
--- Where nothing fails, the checks of the tree fail nowhere new over blocks that agree on the owned ones.
+-- Where nothing fails, the checks of the tree fail at the same blocks over blocks that agree on the owned ones.
 use Rattle.std.proofs.Common.{◌≡◌, ℕ, ◌%◌, ◌^◌, false, ◌==◌, List, [], ◌++◌, map, ◌∙◌, ap}
 use Rattle.std.specs.Prelude.{flat_map, filter, codes, count_by}
 use Rattle.std.specs.Option.{option_map_or}
+use Rattle.std.proofs.lemmas.List.Elements.{filter_agree}
 use Rattle.o2_ondisk.specs.Dinodes.{dinode_of}
 use Rattle.o2_ondisk.specs.Kinds.{type_of_kind}
 use Rattle.o2_ondisk.specs.declared.kind.Kind.{Kind}
@@ -17,12 +18,12 @@ use Rattle.o2_model.specs.Checks.DirentType.{has_type_of_inode}
 use Rattle.o2_model.specs.Failing.{faults, failing}
 use Rattle.o2_model.specs.Agrees.{AgreesOnOwned}
 use Rattle.o2_model.proofs.Found.{contains_filter, each_of}
-use Rattle.o2_model.proofs.Agreeing.{flat_map_agree, filter_agree_on, fails_agree}
+use Rattle.o2_model.proofs.Agreeing.{flat_map_agree, fails_agree}
 use Rattle.o2_model.proofs.SameContents.{kind_same}
 use Rattle.o2_model.proofs.OwnedTells.{dinode_same}
 use Rattle.o2_model.proofs.OwnedTables.{owned_tell_inode}
 use Rattle.o2_model.proofs.OwnedDirectories.{IsDirectoryInode, entries_of_directory, names_of_directory}
-use Rattle.o2_model.proofs.OwnedTree.{users_same, owned_tell_tree, entered_directories, tree_directory, owned_tell_tree_entries}
+use Rattle.o2_model.proofs.OwnedTree.{owned_tell_users, owned_tell_tree, entered_directories, tree_directory, owned_tell_tree_entries}
 use Rattle.o2_model.proofs.OwnedFiles.{owned_tell_met_inodes, met_readable}
 
 -- ---- directories
@@ -42,7 +43,9 @@ unfolding faults
 keeps_dir_parent v at none agrees = ap (λ (w : TreeWalk). w.faults) (owned_tell_tree v at none agrees)
 
 -- ---- entries
-tree_names_same : (v : Volume) (at : ℕ → List ℕ) → failing v ≡ [] → AgreesOnOwned v at → flat_map (named_entries (over v at)) (tree_directories (over v at)) ≡ flat_map (named_entries v) (tree_directories v)
+-- the entries of the tree but the dots
+tree_names_same : (v : Volume) (at : ℕ → List ℕ) → failing v ≡ [] → AgreesOnOwned v at
+    → flat_map (named_entries (over v at)) (tree_directories (over v at)) ≡ flat_map (named_entries v) (tree_directories v)
 tree_names_same v at none agrees =
     ap (λ (w : TreeWalk). flat_map (named_entries (over v at)) (map (λ d. d.inode) w.entered)) (owned_tell_tree v at none agrees)
     ∙ flat_map_agree (named_entries (over v at)) (named_entries v) (tree_directories v) (λ d is. names_of_directory v at d none agrees (tree_directory v d none is))
@@ -51,7 +54,7 @@ pub keeps_dirent_inode : (v : Volume) (at : ℕ → List ℕ) → failing v ≡ 
 unfolding faults
 keeps_dirent_inode v at none agrees =
     ap (fails_at (λ (e : Entry). e.block) (names_users (over v at))) (tree_names_same v at none agrees)
-    ∙ fails_agree (λ (e : Entry). e.block) (names_users (over v at)) (names_users v) (flat_map (named_entries v) (tree_directories v)) (λ e is. users_same v at none agrees e)
+    ∙ fails_agree (λ (e : Entry). e.block) (names_users (over v at)) (names_users v) (flat_map (named_entries v) (tree_directories v)) (λ e is. owned_tell_users v at none agrees e)
 
 type_same : (v : Volume) (at : ℕ → List ℕ) (e : Entry) → at e.inode ≡ v.at e.inode → has_type_of_inode (over v at) e ≡ has_type_of_inode v e
 unfolding has_type_of_inode
@@ -60,11 +63,12 @@ type_same v at e inode = ap (λ o. option_map_or (λ (k : Kind). e.file_type == 
 pub keeps_dirent_type : (v : Volume) (at : ℕ → List ℕ) → failing v ≡ [] → AgreesOnOwned v at → faults (over v at) check.DirentType ≡ faults v check.DirentType
 unfolding faults
 keeps_dirent_type v at none agrees =
-    let names_inode = λ (e : Entry). is_inode v e.inode in
-    ap (λ es. fails_at (λ (e : Entry). e.block) (has_type_of_inode (over v at)) (filter (λ e. is_inode (over v at) e.inode) es)) (owned_tell_tree_entries v at none agrees)
-    ∙ (ap (fails_at (λ (e : Entry). e.block) (has_type_of_inode (over v at))) (filter_agree_on (λ (e : Entry). is_inode (over v at) e.inode) names_inode (tree_entries v) (λ e is. owned_tell_inode v at e.inode none agrees))
-    ∙ fails_agree (λ (e : Entry). e.block) (has_type_of_inode (over v at)) (has_type_of_inode v) (filter names_inode (tree_entries v))
-    (λ e is. type_same v at e (dinode_same v at e.inode agrees (contains_filter names_inode (tree_entries v) e is).1)))
+    let names_inode = λ (u : Volume) (e : Entry). is_inode u e.inode in
+    let judged = fails_at (λ (e : Entry). e.block) (has_type_of_inode (over v at)) in
+    ap (λ es. judged (filter (names_inode (over v at)) es)) (owned_tell_tree_entries v at none agrees)
+    ∙ (ap judged (filter_agree (names_inode (over v at)) (names_inode v) (λ e. owned_tell_inode v at e.inode none agrees) (tree_entries v))
+    ∙ fails_agree (λ (e : Entry). e.block) (has_type_of_inode (over v at)) (has_type_of_inode v) (filter (names_inode v) (tree_entries v))
+    (λ e is. type_same v at e (dinode_same v at e.inode agrees (contains_filter (names_inode v) (tree_entries v) e is).1)))
 
 -- ---- links
 links_same : (v : Volume) (at : ℕ → List ℕ) (b : ℕ) → at b ≡ v.at b → tree_entries (over v at) ≡ tree_entries v
