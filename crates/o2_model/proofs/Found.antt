@@ -99,6 +99,7 @@ pub append_nothing : {A : Type 0} (xs ys : List A) → xs ++ ys ≡ [] → (xs �
 append_nothing [] ys h = (refl, h)
 append_nothing (x ∷ xs) ys h = cc
 
+-- ---- what all elements have
 pub all_map : {A B : Type 0} (P : B → Type 0) (f : A → B) (xs : List A) → AllByRecursion (λ x. P (f x)) xs → AllByRecursion P (map f xs)
 all_map P f [] all = tt
 all_map P f (x ∷ xs) all = (all.0, all_map P f xs all.1)
