@@ -1,9 +1,8 @@
 -- Functions that agree on the members of a list give the same over the list.
-use Rattle.std.proofs.Common.{◌≡◌, ℕ, ◌+◌, Bool, true, not, cond, List, [], ◌∷◌, map, ap, refl, Option, Some, None}
+use Rattle.std.proofs.Common.{◌≡◌, ℕ, ◌+◌, Bool, not, cond, List, [], ◌∷◌, map, ap, refl, Option, Some, None}
 use Rattle.std.specs.Prelude.{filter, flat_map, fold, find, count_by, sum_by}
 use Rattle.std.specs.List.{Contains, list_any, list_all}
 use Rattle.std.specs.Option.{option_map_or}
-use Rattle.std.proofs.lemmas.List.Elements.{All-contains, All-filter, All-contains_itself, filter_passes}
 use Rattle.o2_model.specs.Words.{fails_at}
 use Rattle.o2_model.proofs.Found.{contains_first, contains_later}
 
@@ -46,13 +45,6 @@ pub fails_agree : {A : Type 0} (place : A → ℕ) (p q : A → Bool) (xs : List
 fails_agree place p q xs same = ap (map place) (filter_agree_on (λ x. not (p x)) (λ x. not (q x)) xs (λ x is. ap not (same x is)))
 
 -- of an option: functions that agree on what it has
-pub option_agree : {A B : Type 0} (f g : A → B) (none : B) (o : Option A) → ((x : A) → o ≡ Some x → f x ≡ g x) → option_map_or f o none ≡ option_map_or g o none
-option_agree f g none None same = refl
-option_agree f g none (Some x) same = same x refl
-
--- what a filter leaves is of the list, and passes
-pub filter_contains : {A : Type 0} (q : A → Bool) (xs : List A) (x : A) → Contains (filter q xs) x → Contains xs x × (q x ≡ true)
-filter_contains q xs x is = (
-  All-contains (Contains xs) (filter q xs) x (All-filter q (Contains xs) xs (All-contains_itself xs)) is,
-  All-contains (λ y. q y ≡ true) (filter q xs) x (filter_passes q xs) is,
-)
+pub option_agree : {A B : Type 0} (f g : A → B) (o : Option A) (none : B) → ((x : A) → o ≡ Some x → f x ≡ g x) → option_map_or f o none ≡ option_map_or g o none
+option_agree f g None none same = refl
+option_agree f g (Some x) none same = same x refl

@@ -1,10 +1,11 @@
 -- Where a list is mapped, joined or filtered, a test finds what it found before.
-use Rattle.std.proofs.Common.{◌≡◌, inl, inr, ℕ, zero, suc, ◌+◌, ◌-◌, ◌<◌, ◌≤◌, Bool, true, ◌&&◌, ◌||◌, List, [], ◌∷◌, ◌++◌, map, refl, ◌∙◌, ap, arith, Some}
-use Rattle.std.specs.Prelude.{flat_map, filter, find}
+use Rattle.std.proofs.Common.{◌≡◌, inl, inr, ◌⊎◌, ⊎_elim, ℕ, zero, suc, ◌+◌, ◌-◌, ◌<◌, ◌≤◌, Bool, true, ◌&&◌, ◌||◌, List, [], ◌∷◌, ◌++◌, map, refl, ◌∙◌, ap, arith, Some}
+use Rattle.std.specs.Prelude.{flat_map, filter, find, slice_get}
 use Rattle.std.specs.List.{list_any, AllByRecursion, Contains, range_with_len}
 use Rattle.std.proofs.lemmas.Bool.{cases_Bool, false≢true}
 use Rattle.std.proofs.lemmas.List.Folds.{list_any-append, list_any_at}
 use Rattle.std.proofs.lemmas.List.FromFn.{length-range_with_len, get_or-range_with_len}
+use Rattle.o2_model.specs.Words.{push}
 
 pub found : {A : Type 0} (p : A → Bool) (xs : List A) (x : A) → Contains xs x → p x ≡ true → list_any p xs ≡ true
 found p xs x is h = list_any_at p xs is.0 x is.1 (ap p is.2 ∙ h)
@@ -41,6 +42,22 @@ contains_first x xs = (0, omega arith, refl)
 
 pub contains_later : {A : Type 0} (y x : A) (xs : List A) → Contains xs x → Contains (y ∷ xs) x
 contains_later y x xs is = (suc is.0, omega (arith, is.1), is.2)
+
+contains_parts : {A : Type 0} (y x : A) (ys : List A) → Contains (y ∷ ys) x → (y ≡ x) ⊎ Contains ys x
+contains_parts y x ys (zero, within, is) = inl is
+contains_parts y x ys (suc k, within, is) = inr (k, omega (arith, within), is)
+
+-- what a filter keeps was there, and passes
+pub contains_filter : {A : Type 0} (q : A → Bool) (xs : List A) (x : A) → Contains (filter q xs) x → Contains xs x × (q x ≡ true)
+contains_filter q [] x is = absurd (omega (arith, is.1))
+contains_filter q (y ∷ ys) x is = elim (cases_Bool (q y)) [
+  | inl good ↦
+      let kept : Contains (y ∷ filter q ys) x = rw good at is in
+      ⊎_elim (λ same. rw (← same) (contains_first y ys, good))
+      (λ later. let rest = contains_filter q ys x later in (contains_later y x ys rest.0, rest.1))
+      (contains_parts y x (filter q ys) kept)
+  | inr bad ↦ let rest = contains_filter q ys x (rw bad at is) in (contains_later y x ys rest.0, rest.1)
+]
 
 pub passing : {A : Type 0} (p : A → Bool) (xs : List A) → list_any p xs ≡ true → Passing p xs
 passing p [] h = absurd (false≢true h)
@@ -81,3 +98,18 @@ each_of P (y ∷ ys) x all (suc k, within, is) = each_of P ys x all.1 (k, omega 
 pub append_nothing : {A : Type 0} (xs ys : List A) → xs ++ ys ≡ [] → (xs ≡ []) × (ys ≡ [])
 append_nothing [] ys h = (refl, h)
 append_nothing (x ∷ xs) ys h = cc
+
+-- ---- what all elements have
+pub all_map : {A B : Type 0} (P : B → Type 0) (f : A → B) (xs : List A) → AllByRecursion (λ x. P (f x)) xs → AllByRecursion P (map f xs)
+all_map P f [] all = tt
+all_map P f (x ∷ xs) all = (all.0, all_map P f xs all.1)
+
+pub all_push : {A : Type 0} (P : A → Type 0) (xs : List A) (x : A) → AllByRecursion P xs → P x → AllByRecursion P (push xs x)
+all_push P [] x all is = (is, tt)
+all_push P (y ∷ ys) x all is = (all.0, all_push P ys x all.1 is)
+
+-- what is read at a place is of the list
+pub all_get : {A : Type 0} (P : A → Type 0) (xs : List A) (k : ℕ) (x : A) → AllByRecursion P xs → slice_get xs k ≡ Some x → P x
+all_get P [] k x all is = cc
+all_get P (y ∷ ys) zero x all is = let same : y ≡ x = cc in rw (← same) all.0
+all_get P (y ∷ ys) (suc k) x all is = all_get P ys k x all.1 is

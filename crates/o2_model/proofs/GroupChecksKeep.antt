@@ -25,8 +25,8 @@ use Rattle.o2_model.specs.Checks.AllocTotals.{has_totals}
 use Rattle.o2_model.specs.Failing.{faults, failing}
 use Rattle.o2_model.specs.Agrees.{AgreesOnOwned}
 use Rattle.o2_model.proofs.SameAllocators.{allocators_same}
-use Rattle.o2_model.proofs.Agreeing.{all_agree, sum_by_agree, fails_agree, flat_map_agree, filter_contains}
-use Rattle.o2_model.proofs.Found.{found}
+use Rattle.o2_model.proofs.Agreeing.{all_agree, sum_by_agree, fails_agree, flat_map_agree}
+use Rattle.o2_model.proofs.Found.{found, contains_filter}
 use Rattle.o2_model.proofs.GroupsOwned.{descriptor_owned}
 use Rattle.o2_model.proofs.OwnedTells.{dinode_same, listed_is_inode}
 use Rattle.o2_model.proofs.OwnedTables.{allocator_is_inode, owned_tell_system_files, owned_tell_groups, owned_tell_inode, owned_tell_inodes}
@@ -56,17 +56,17 @@ each_allocator v at holds none agrees same =
     ap (fails_at (λ a. a.block) (holds (over v at))) (owned_tell_allocators v at none agrees)
     ∙ fails_agree (λ a. a.block) (holds (over v at)) (holds v) (allocators v) (λ a is. same a (allocator_dinode v at a none agrees is))
 
-pub keeps_ChainHeader : (v : Volume) (at : ℕ → List ℕ) → failing v ≡ [] → AgreesOnOwned v at → faults (over v at) check.ChainHeader ≡ faults v check.ChainHeader
+pub keeps_chain_header : (v : Volume) (at : ℕ → List ℕ) → failing v ≡ [] → AgreesOnOwned v at → faults (over v at) check.ChainHeader ≡ faults v check.ChainHeader
 unfolding faults
-keeps_ChainHeader v at none agrees = each_allocator v at is_sound_chain_header none agrees (header_same v at)
+keeps_chain_header v at none agrees = each_allocator v at is_sound_chain_header none agrees (header_same v at)
 
-pub keeps_ChainLink : (v : Volume) (at : ℕ → List ℕ) → failing v ≡ [] → AgreesOnOwned v at → faults (over v at) check.ChainLink ≡ faults v check.ChainLink
+pub keeps_chain_link : (v : Volume) (at : ℕ → List ℕ) → failing v ≡ [] → AgreesOnOwned v at → faults (over v at) check.ChainLink ≡ faults v check.ChainLink
 unfolding faults
-keeps_ChainLink v at none agrees = ap (λ w. w.faults) (owned_tell_groups v at none agrees)
+keeps_chain_link v at none agrees = ap (λ w. w.faults) (owned_tell_groups v at none agrees)
 
-pub keeps_GroupMissing : (v : Volume) (at : ℕ → List ℕ) → failing v ≡ [] → AgreesOnOwned v at → faults (over v at) check.GroupMissing ≡ faults v check.GroupMissing
+pub keeps_group_missing : (v : Volume) (at : ℕ → List ℕ) → failing v ≡ [] → AgreesOnOwned v at → faults (over v at) check.GroupMissing ≡ faults v check.GroupMissing
 unfolding faults
-keeps_GroupMissing v at none agrees =
+keeps_group_missing v at none agrees =
     ap (λ w. those_not (λ b. among (map (λ g. g.block) (filter is_of_clusters w.groups)) b) (bitmap_places v)) (owned_tell_groups v at none agrees)
 
 -- ---- groups
@@ -78,17 +78,17 @@ each_group v at holds none agrees same =
     ap (λ w. fails_at (λ g. g.block) (holds (over v at)) w.groups) (owned_tell_groups v at none agrees)
     ∙ fails_agree (λ g. g.block) (holds (over v at)) (holds v) (groups v) (λ g is. same g (descriptor_same v at g agrees is))
 
-pub keeps_GroupChain : (v : Volume) (at : ℕ → List ℕ) → failing v ≡ [] → AgreesOnOwned v at → faults (over v at) check.GroupChain ≡ faults v check.GroupChain
+pub keeps_group_chain : (v : Volume) (at : ℕ → List ℕ) → failing v ≡ [] → AgreesOnOwned v at → faults (over v at) check.GroupChain ≡ faults v check.GroupChain
 unfolding faults
-keeps_GroupChain v at none agrees = each_group v at (λ u g. (group_desc u g.block).chain == g.chain) none agrees (λ g same. rw same refl)
+keeps_group_chain v at none agrees = each_group v at (λ u g. (group_desc u g.block).chain == g.chain) none agrees (λ g same. rw same refl)
 
 free_bits_same : (v : Volume) (at : ℕ → List ℕ) (g : Group) → at g.block ≡ v.at g.block → has_free_bits (over v at) g ≡ has_free_bits v g
 unfolding has_free_bits
 free_bits_same v at g same = rw same refl
 
-pub keeps_GroupFreeBits : (v : Volume) (at : ℕ → List ℕ) → failing v ≡ [] → AgreesOnOwned v at → faults (over v at) check.GroupFreeBits ≡ faults v check.GroupFreeBits
+pub keeps_group_free_bits : (v : Volume) (at : ℕ → List ℕ) → failing v ≡ [] → AgreesOnOwned v at → faults (over v at) check.GroupFreeBits ≡ faults v check.GroupFreeBits
 unfolding faults
-keeps_GroupFreeBits v at none agrees = each_group v at has_free_bits none agrees (free_bits_same v at)
+keeps_group_free_bits v at none agrees = each_group v at has_free_bits none agrees (free_bits_same v at)
 
 -- ---- sums over groups
 chains_same : (v : Volume) (at : ℕ → List ℕ) (a : Allocator) → at a.block ≡ v.at a.block → chains (over v at) a ≡ chains v a
@@ -99,17 +99,17 @@ totals_same : (v : Volume) (at : ℕ → List ℕ) (a : Allocator) → at a.bloc
 unfolding has_totals
 totals_same v at a same = rw (chains_same v at a same, same) refl
 
-pub keeps_AllocTotals : (v : Volume) (at : ℕ → List ℕ) → failing v ≡ [] → AgreesOnOwned v at → faults (over v at) check.AllocTotals ≡ faults v check.AllocTotals
+pub keeps_alloc_totals : (v : Volume) (at : ℕ → List ℕ) → failing v ≡ [] → AgreesOnOwned v at → faults (over v at) check.AllocTotals ≡ faults v check.AllocTotals
 unfolding faults
-keeps_AllocTotals v at none agrees = each_allocator v at has_totals none agrees (totals_same v at)
+keeps_alloc_totals v at none agrees = each_allocator v at has_totals none agrees (totals_same v at)
 
 -- the chain's groups have the same sum
 free_sum_same : (v : Volume) (at : ℕ → List ℕ) (a : Allocator) (chain : ℕ) → failing v ≡ [] → AgreesOnOwned v at
     → sum_by (λ g. (group_desc (over v at) g.block).free_bits_count) (groups_in_chain v a chain) ≡ sum_by (λ g. (group_desc v g.block).free_bits_count) (groups_in_chain v a chain)
 free_sum_same v at a chain none agrees =
     sum_by_agree (λ g. (group_desc (over v at) g.block).free_bits_count) (λ g. (group_desc v g.block).free_bits_count) (groups_in_chain v a chain) (λ g is.
-    let of_allocator = (filter_contains (λ g. g.chain == chain) (groups_of v a.block) g is).0 in
-    let inside = (filter_contains (λ g. g.of.block == a.block) (groups v) g of_allocator).0 in
+    let of_allocator = (contains_filter (λ g. g.chain == chain) (groups_of v a.block) g is).0 in
+    let inside = (contains_filter (λ g. g.of.block == a.block) (groups v) g of_allocator).0 in
     ap (λ bytes. (group_desc_of bytes).free_bits_count) (descriptor_same v at g agrees inside))
 
 -- the sums that a chain record is to have
@@ -129,9 +129,9 @@ chain_sums_same v at a none agrees same =
     ap (λ rs. list_all (λ c. has_sums (over v at) a c.0 c.1) (enumerate_from 0 rs)) (chains_same v at a same)
     ∙ all_agree (λ c. has_sums (over v at) a c.0 c.1) (λ c. has_sums v a c.0 c.1) (enumerate_from 0 (chains v a)) (λ c is. sums_same v at a c.0 c.1 none agrees)
 
-pub keeps_ChainBits : (v : Volume) (at : ℕ → List ℕ) → failing v ≡ [] → AgreesOnOwned v at → faults (over v at) check.ChainBits ≡ faults v check.ChainBits
+pub keeps_chain_bits : (v : Volume) (at : ℕ → List ℕ) → failing v ≡ [] → AgreesOnOwned v at → faults (over v at) check.ChainBits ≡ faults v check.ChainBits
 unfolding faults
-keeps_ChainBits v at none agrees = each_allocator v at has_sums_in_chains none agrees (λ a same. chain_sums_same v at a none agrees same)
+keeps_chain_bits v at none agrees = each_allocator v at has_sums_in_chains none agrees (λ a same. chain_sums_same v at a none agrees same)
 
 -- ---- inodes on bits
 inodes_at_bits_same : (v : Volume) (at : ℕ → List ℕ) (g : Group) → failing v ≡ [] → AgreesOnOwned v at → at g.block ≡ v.at g.block → has_inodes_at_bits (over v at) g ≡ has_inodes_at_bits v g
@@ -143,13 +143,13 @@ inodes_at_bits_same v at g none agrees same =
     (λ k. not (is_bit_set v g.block k) || is_inode v (block_of_bit v g k)) (from_to 1 g.bits)
     (λ k is. ap (λ b. not (is_bit_set v g.block k) || b) (owned_tell_inode v at (block_of_bit v g k) none agrees)))
 
-pub keeps_InodeAllocBit : (v : Volume) (at : ℕ → List ℕ) → failing v ≡ [] → AgreesOnOwned v at → faults (over v at) check.InodeAllocBit ≡ faults v check.InodeAllocBit
+pub keeps_inode_alloc_bit : (v : Volume) (at : ℕ → List ℕ) → failing v ≡ [] → AgreesOnOwned v at → faults (over v at) check.InodeAllocBit ≡ faults v check.InodeAllocBit
 unfolding faults
-keeps_InodeAllocBit v at none agrees =
+keeps_inode_alloc_bit v at none agrees =
     let of_inodes = λ (gs : List Group). filter (λ g. are_inodes g.of.bit_use) gs in
     ap (λ w. fails_at (λ g. g.block) (has_inodes_at_bits (over v at)) (of_inodes w.groups)) (owned_tell_groups v at none agrees)
     ∙ fails_agree (λ g. g.block) (has_inodes_at_bits (over v at)) (has_inodes_at_bits v) (of_inodes (groups v)) (λ g is.
-    inodes_at_bits_same v at g none agrees (descriptor_same v at g agrees (filter_contains (λ g. are_inodes g.of.bit_use) (groups v) g is).0))
+    inodes_at_bits_same v at g none agrees (descriptor_same v at g agrees (contains_filter (λ g. are_inodes g.of.bit_use) (groups v) g is).0))
 
 -- ---- where inodes are from
 pub owned_tell_group_with_bit : (v : Volume) (at : ℕ → List ℕ) (is_use : BitUse → Bool) (b : ℕ) → failing v ≡ [] → AgreesOnOwned v at → group_with_bit (over v at) is_use b ≡ group_with_bit v is_use b
@@ -160,8 +160,8 @@ origin_same : (v : Volume) (at : ℕ → List ℕ) (b : ℕ) → failing v ≡ [
 unfolding has_origin
 origin_same v at b none agrees same = rw (owned_tell_group_with_bit v at are_inodes b none agrees, same) refl
 
-pub keeps_InodeSuballoc : (v : Volume) (at : ℕ → List ℕ) → failing v ≡ [] → AgreesOnOwned v at → faults (over v at) check.InodeSuballoc ≡ faults v check.InodeSuballoc
+pub keeps_inode_suballoc : (v : Volume) (at : ℕ → List ℕ) → failing v ≡ [] → AgreesOnOwned v at → faults (over v at) check.InodeSuballoc ≡ faults v check.InodeSuballoc
 unfolding faults
-keeps_InodeSuballoc v at none agrees =
+keeps_inode_suballoc v at none agrees =
     ap (flat_map (inode_suballoc_faults (over v at))) (owned_tell_inodes v at none agrees)
     ∙ flat_map_agree (inode_suballoc_faults (over v at)) (inode_suballoc_faults v) (inodes_of v) (λ b is. origin_same v at b none agrees (dinode_same v at b agrees (listed_is_inode v b is)))

@@ -70,7 +70,7 @@ first_block_owned v i b is first =
 superblock_bytes_same : (v : Volume) (at : ℕ → List ℕ) (b : ℕ) → failing v ≡ [] → AgreesOnOwned v at → is_inode v b ≡ true → journal_block (over v at) b 0 ≡ journal_block v b 0
 superblock_bytes_same v at b none agrees is =
     ap (λ bs. option_map_or at (slice_get bs 0) []) (blocks_same v at b (owned_tell_extents v at b none agrees is))
-    ∙ option_agree at v.at [] (slice_get (journal_blocks v b) 0) (λ c first. agrees.same c (first_block_owned v b c is first))
+    ∙ option_agree at v.at (slice_get (journal_blocks v b) 0) [] (λ c first. agrees.same c (first_block_owned v b c is first))
 
 pub owned_tell_journal_super : (v : Volume) (at : ℕ → List ℕ) (b : ℕ) → failing v ≡ [] → AgreesOnOwned v at → is_inode v b ≡ true → journal_super (over v at) b ≡ journal_super v b
 owned_tell_journal_super v at b none agrees is = ap journal_super_of (superblock_bytes_same v at b none agrees is)
@@ -99,13 +99,13 @@ each_journal v at holds none agrees same =
     ap (fails_at (λ b. b) (holds (over v at))) (owned_tell_journals v at none agrees)
     ∙ fails_agree (λ b. b) (holds (over v at)) (holds v) (journals v) (λ b is. same b (listed_journal_is_inode v b none is))
 
-pub keeps_Journal : (v : Volume) (at : ℕ → List ℕ) → failing v ≡ [] → AgreesOnOwned v at → faults (over v at) check.Journal ≡ faults v check.Journal
+pub keeps_journal : (v : Volume) (at : ℕ → List ℕ) → failing v ≡ [] → AgreesOnOwned v at → faults (over v at) check.Journal ≡ faults v check.Journal
 unfolding faults
-keeps_Journal v at none agrees = each_journal v at is_sound_journal none agrees (λ b is. owned_tell_sound_journal v at b none agrees is)
+keeps_journal v at none agrees = each_journal v at is_sound_journal none agrees (λ b is. owned_tell_sound_journal v at b none agrees is)
 
-pub keeps_JournalDirty : (v : Volume) (at : ℕ → List ℕ) → failing v ≡ [] → AgreesOnOwned v at → faults (over v at) check.JournalDirty ≡ faults v check.JournalDirty
+pub keeps_journal_dirty : (v : Volume) (at : ℕ → List ℕ) → failing v ≡ [] → AgreesOnOwned v at → faults (over v at) check.JournalDirty ≡ faults v check.JournalDirty
 unfolding faults
-keeps_JournalDirty v at none agrees = each_journal v at (λ u b. not (is_dirty u b)) none agrees (λ b is. rw (dinode_same v at b agrees is) refl)
+keeps_journal_dirty v at none agrees = each_journal v at (λ u b. not (is_dirty u b)) none agrees (λ b is. rw (dinode_same v at b agrees is) refl)
 
 -- ---- dirty slots
 journal_same : (v : Volume) (at : ℕ → List ℕ) (b : ℕ) → at b ≡ v.at b → is_journal (over v at) b ≡ is_journal v b
@@ -135,7 +135,7 @@ owned_tell_dirty v at none agrees = filter_agree_on (is_dirty_slot (over v at)) 
 length_same : (v : Volume) (at : ℕ → List ℕ) (slot : ℕ) → failing v ≡ [] → AgreesOnOwned v at → journal_length (over v at) slot ≡ journal_length v slot
 length_same v at slot none agrees =
     ap (λ o. option_map_or (λ b. sum_by leaf_clusters (leaf_records (over v at) b)) o 0) (named_same v at slot none agrees)
-    ∙ option_agree (λ b. sum_by leaf_clusters (leaf_records (over v at) b)) (λ b. sum_by leaf_clusters (leaf_records v b)) 0 (named_journal v slot)
+    ∙ option_agree (λ b. sum_by leaf_clusters (leaf_records (over v at) b)) (λ b. sum_by leaf_clusters (leaf_records v b)) (named_journal v slot) 0
     (λ b named. ap (λ t. sum_by leaf_clusters t.leaves) (owned_tell_extents v at b none agrees (named_is_inode v slot b none named)))
 
 pub owned_tell_journal_lengths : (v : Volume) (at : ℕ → List ℕ) → failing v ≡ [] → AgreesOnOwned v at → map (journal_length (over v at)) (slots v) ≡ map (journal_length v) (slots v)

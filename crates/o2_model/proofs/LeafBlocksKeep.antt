@@ -15,15 +15,15 @@ use Rattle.o2_model.specs.Checks.LastEb.{last_leaf, last_eb_faults}
 use Rattle.o2_model.specs.Failing.{faults, failing}
 use Rattle.o2_model.specs.Owned.{is_owned}
 use Rattle.o2_model.specs.Agrees.{AgreesOnOwned}
-use Rattle.o2_model.proofs.Found.{contains_first, contains_later}
+use Rattle.o2_model.proofs.Found.{contains_first, contains_later, contains_filter}
 use Rattle.o2_model.proofs.Agreeing.{flat_map_agree, filter_agree_on, fails_agree}
-use Rattle.o2_model.proofs.Members.{contains_filter, contains_flat, contains_one, flat_contains}
+use Rattle.o2_model.proofs.Members.{contains_flat, contains_one, flat_contains}
 use Rattle.o2_model.proofs.Readings.{same_has_list}
 use Rattle.o2_model.proofs.WellRead.{extent_blocks_are}
-use Rattle.o2_model.proofs.OwnedTells.{owned_tell_extents}
+use Rattle.o2_model.proofs.OwnedTells.{owned_tell_extents, listed_is_inode}
 use Rattle.o2_model.proofs.OwnedTables.{owned_tell_inodes}
 use Rattle.o2_model.proofs.BlockNames.{has_leaf_blocks_same}
-use Rattle.o2_model.proofs.RootsKeep.{listed_is_inode, listed_dinode_same, owned_tell_roots}
+use Rattle.o2_model.proofs.RootsKeep.{listed_dinode_same, owned_tell_roots}
 use Rattle.o2_model.proofs.RefcountsKeep.{list_block_owned, root_same, owned_tell_leaf_list}
 use Rattle.o2_model.proofs.MetadataKeeps.{owned_tell_lists, inode_block_owned}
 
@@ -95,9 +95,9 @@ eb_next_same v at none agrees =
     ∙ flat_map_agree (list_next_faults (over v at)) (list_next_faults v) (all_lists v)
     (λ t is. list_next_same v at t (λ b inside. agrees.same b (block_of_list_owned v t b none is inside)))
 
-pub keeps_EbNext : (v : Volume) (at : ℕ → List ℕ) → failing v ≡ [] → AgreesOnOwned v at → faults (over v at) check.EbNext ≡ faults v check.EbNext
+pub keeps_eb_next : (v : Volume) (at : ℕ → List ℕ) → failing v ≡ [] → AgreesOnOwned v at → faults (over v at) check.EbNext ≡ faults v check.EbNext
 unfolding faults
-keeps_EbNext v at none agrees = eb_next_same v at none agrees
+keeps_eb_next v at none agrees = eb_next_same v at none agrees
 
 -- ---- LAST_EB
 last_leaf_same : (v : Volume) (at : ℕ → List ℕ) (t : Extents) → ((b : ℕ) → Contains t.blocks b → at b ≡ v.at b) → last_leaf (over v at) t ≡ last_leaf v t
@@ -166,6 +166,6 @@ last_eb_same v at none agrees =
     ap (λ bs. bs ++ fails_at (λ b. b) (root_names_last (over v at)) (filter (has_leaf_blocks (over v at)) (refcount_roots (over v at)))) (last_of_inodes_same v at none agrees)
     ∙ ap (λ bs. fails_at (λ b. b) (names_last v) (filter (has_list v) (inodes_of v)) ++ bs) (last_of_roots_same v at none agrees)
 
-pub keeps_LastEb : (v : Volume) (at : ℕ → List ℕ) → failing v ≡ [] → AgreesOnOwned v at → faults (over v at) check.LastEb ≡ faults v check.LastEb
+pub keeps_last_eb : (v : Volume) (at : ℕ → List ℕ) → failing v ≡ [] → AgreesOnOwned v at → faults (over v at) check.LastEb ≡ faults v check.LastEb
 unfolding faults
-keeps_LastEb v at none agrees = last_eb_same v at none agrees
+keeps_last_eb v at none agrees = last_eb_same v at none agrees

@@ -4,6 +4,7 @@ pub mod SuperSector
 pub mod Entries
 pub mod Readings
 pub mod Looks
+pub mod TreeWalks
 pub mod TreeEnds
 pub mod SameTree
 pub mod SameGroups
@@ -31,6 +32,7 @@ pub mod DataOwned
 pub mod OwnedTells
 pub mod SystemOwned
 pub mod OwnedTables
+pub mod OwnedDirectories
 pub mod OwnedTree
 pub mod OwnedFiles
 pub mod OwnedImages
@@ -46,3 +48,7 @@ pub mod SharingKeeps
 pub mod RefcountChecksKeep
 pub mod MetadataChecksKeep
 pub mod LeafBlocksKeep
+pub mod InodeChecksKeep
+pub mod DirectoryChecksKeep
+pub mod TreeChecksKeep
+pub mod OrphanChecksKeep

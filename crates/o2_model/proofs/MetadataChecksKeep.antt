@@ -16,11 +16,12 @@ use Rattle.o2_model.specs.Failing.{faults, failing}
 use Rattle.o2_model.specs.Owned.{is_owned}
 use Rattle.o2_model.specs.Agrees.{AgreesOnOwned}
 use Rattle.o2_model.proofs.Agreeing.{flat_map_agree, filter_agree_on, fails_agree}
-use Rattle.o2_model.proofs.Members.{contains_filter, flat_contains}
+use Rattle.o2_model.proofs.Members.{flat_contains}
 use Rattle.o2_model.proofs.BlockNames.{refcount_block_same}
 use Rattle.o2_model.proofs.RootsKeep.{owned_tell_roots}
 use Rattle.o2_model.proofs.RefcountsKeep.{root_owned, list_block_owned, leaf_owned, owned_tell_leaf_list}
 use Rattle.o2_model.proofs.MetadataKeeps.{owned_tell_list_blocks, owned_tell_metadata, owned_tell_metadata_bit, owned_tell_origin, listed_block_owned}
+use Rattle.o2_model.proofs.Found.{contains_filter}
 
 -- ---- META_BLOCK
 sound_block_same : (v : Volume) (at : ℕ → List ℕ) (b : ℕ) → failing v ≡ [] → AgreesOnOwned v at → is_sound_metadata_block (over v at) b ≡ is_sound_metadata_block v b
@@ -34,9 +35,9 @@ meta_block_same v at none agrees =
     ap (fails_at (λ b. b) (is_sound_metadata_block (over v at))) (owned_tell_metadata v at none agrees)
     ∙ fails_agree (λ b. b) (is_sound_metadata_block (over v at)) (is_sound_metadata_block v) (metadata_blocks v) (λ b is. sound_block_same v at b none agrees)
 
-pub keeps_MetaBlock : (v : Volume) (at : ℕ → List ℕ) → failing v ≡ [] → AgreesOnOwned v at → faults (over v at) check.MetaBlock ≡ faults v check.MetaBlock
+pub keeps_meta_block : (v : Volume) (at : ℕ → List ℕ) → failing v ≡ [] → AgreesOnOwned v at → faults (over v at) check.MetaBlock ≡ faults v check.MetaBlock
 unfolding faults
-keeps_MetaBlock v at none agrees = meta_block_same v at none agrees
+keeps_meta_block v at none agrees = meta_block_same v at none agrees
 
 -- ---- META_SUBALLOC, of extent blocks
 -- what one tree adds to them
@@ -121,6 +122,6 @@ meta_suballoc_same v at none agrees =
     ap (λ bs. bs ++ fails_at (λ b. b) (tells_tree_origin (over v at)) (good_blocks (over v at))) (extent_origins_same v at none agrees)
     ∙ ap (λ bs. fails_at (λ b. b) (tells_origin v) (extent_blocks v) ++ bs) (tree_origins_same v at none agrees)
 
-pub keeps_MetaSuballoc : (v : Volume) (at : ℕ → List ℕ) → failing v ≡ [] → AgreesOnOwned v at → faults (over v at) check.MetaSuballoc ≡ faults v check.MetaSuballoc
+pub keeps_meta_suballoc : (v : Volume) (at : ℕ → List ℕ) → failing v ≡ [] → AgreesOnOwned v at → faults (over v at) check.MetaSuballoc ≡ faults v check.MetaSuballoc
 unfolding faults
-keeps_MetaSuballoc v at none agrees = meta_suballoc_same v at none agrees
+keeps_meta_suballoc v at none agrees = meta_suballoc_same v at none agrees

@@ -18,9 +18,9 @@ use Rattle.o2_model.proofs.Agreeing.{flat_map_agree}
 use Rattle.o2_model.proofs.Members.{contains_flat, contains_among}
 use Rattle.o2_model.proofs.Readings.{same_has_list}
 use Rattle.o2_model.proofs.BitsOwned.{metadata_owned}
-use Rattle.o2_model.proofs.OwnedTells.{metadata_holds, dinode_same, owned_tell_extents}
+use Rattle.o2_model.proofs.OwnedTells.{metadata_holds, dinode_same, owned_tell_extents, listed_is_inode}
 use Rattle.o2_model.proofs.OwnedTables.{owned_tell_groups, owned_tell_inodes}
-use Rattle.o2_model.proofs.RootsKeep.{listed_is_inode, owned_tell_roots}
+use Rattle.o2_model.proofs.RootsKeep.{owned_tell_roots}
 use Rattle.o2_model.proofs.RefcountsKeep.{owned_tell_tree_blocks}
 
 -- ---- the lists of an inode

@@ -39,9 +39,9 @@ use Rattle.o2_model.proofs.JournalsKeep.{owned_tell_journal_lengths}
 super_block_same : (v : Volume) (at : ℕ → List ℕ) → failing v ≡ [] → AgreesOnOwned v at → at 2 ≡ v.at 2
 super_block_same v at none agrees = agrees.same 2 (super_owned v 2 none (omega arith))
 
-pub keeps_Super : (v : Volume) (at : ℕ → List ℕ) → failing v ≡ [] → AgreesOnOwned v at → faults (over v at) check.Super ≡ faults v check.Super
+pub keeps_super : (v : Volume) (at : ℕ → List ℕ) → failing v ≡ [] → AgreesOnOwned v at → faults (over v at) check.Super ≡ faults v check.Super
 unfolding faults is_sound_super
-keeps_Super v at none agrees = rw (super_block_same v at none agrees) refl
+keeps_super v at none agrees = rw (super_block_same v at none agrees) refl
 
 pub owned_tell_geometry : (v : Volume) (at : ℕ → List ℕ) → failing v ≡ [] → AgreesOnOwned v at → volume_geometry (over v at) ≡ volume_geometry v
 owned_tell_geometry v at none agrees =
@@ -70,9 +70,9 @@ backup_same : (v : Volume) (at : ℕ → List ℕ) (b : ℕ) → at b ≡ v.at b
 unfolding is_backup
 backup_same v at b same super = rw (same, super) refl
 
-pub keeps_BackupSuper : (v : Volume) (at : ℕ → List ℕ) → failing v ≡ [] → AgreesOnOwned v at → faults (over v at) check.BackupSuper ≡ faults v check.BackupSuper
+pub keeps_backup_super : (v : Volume) (at : ℕ → List ℕ) → failing v ≡ [] → AgreesOnOwned v at → faults (over v at) check.BackupSuper ≡ faults v check.BackupSuper
 unfolding faults
-keeps_BackupSuper v at none agrees =
+keeps_backup_super v at none agrees =
     fails_agree (λ b. b) (is_backup (over v at)) (is_backup v) (backup_blocks v) (λ b is. backup_same v at b (agrees.same b (backup_block_owned v b is)) (super_block_same v at none agrees))
 
 -- ---- structures that are not supported

@@ -1,22 +1,24 @@
 -- Where nothing fails, blocks that agree on the owned ones have the same files at the paths of the tree.
-use Rattle.std.proofs.Common.{◌≡◌, inl, inr, ℕ, zero, suc, true, false, not, List, [], ◌∷◌, map, refl, ◌∙◌, ap, arith, Option, Some, None}
-use Rattle.std.specs.Prelude.{slice_get, fold, filter}
+use Rattle.std.proofs.Common.{◌≡◌, inl, inr, ℕ, true, false, not, List, [], ◌∷◌, map, refl, ◌∙◌, ap}
 use Rattle.std.specs.FinMap as finite
-use Rattle.std.specs.List.{AllByRecursion}
-use Rattle.std.specs.Option.{option_map_or}
+use Rattle.std.specs.List.{AllByRecursion, Contains}
 use Rattle.std.specs.Ordering.{nat_cmp}
 use Rattle.std.proofs.lemmas.Bool.{cases_Bool, and_parts, not-true}
 use Rattle.o2_model.specs.Words.{among, push}
+use Rattle.o2_model.specs.Orders.{rising}
 use Rattle.o2_model.specs.Volume.{Volume, over, blocks}
 use Rattle.o2_model.specs.Inodes.{is_directory}
-use Rattle.o2_model.specs.Directories.{Entry, named_entries, own_inodes}
+use Rattle.o2_model.specs.Directories.{Entry, own_inodes}
 use Rattle.o2_model.specs.Files.{File, file_of, files_of}
 use Rattle.o2_model.specs.Groups.{is_inode}
 use Rattle.o2_model.specs.Journals.{journals}
 use Rattle.o2_model.specs.Frames.{entered_inodes as inodes_entered}
-use Rattle.o2_model.specs.Tree.{Entered, TreeWalk, names_users, follow, look_through, walk_after, tree_walk}
+use Rattle.o2_model.specs.Tree.{TreeWalk, names_users, tree_walk, met_inodes}
 use Rattle.o2_model.specs.Failing.{failing}
 use Rattle.o2_model.specs.Agrees.{AgreesOnOwned}
+use Rattle.o2_model.proofs.Found.{all_map, all_push, each_of}
+use Rattle.o2_model.proofs.Rising.{all_rising}
+use Rattle.o2_model.proofs.TreeWalks.{Keeps, users_inode, walk_keeps}
 use Rattle.o2_model.proofs.SystemOwned.{root_is_inode, root_is_directory, directory_apart, users_apart}
 use Rattle.o2_model.proofs.OwnedTells.{owned_tell_file}
 use Rattle.o2_model.proofs.OwnedTree.{owned_tell_tree}
@@ -30,10 +32,6 @@ pub record IsReadable (v : Volume) (b : ℕ) : Type 0 where
 abbrev pub AllReadable : Volume → List (List (List ℕ) × ℕ) → Type 0
 AllReadable v names = AllByRecursion (λ n. IsReadable v n.1) names
 
-users_inode : (v : Volume) (e : Entry) → names_users v e ≡ true → is_inode v e.inode ≡ true
-unfolding names_users
-users_inode v e h = grind arith
-
 users_own : (v : Volume) (e : Entry) → names_users v e ≡ true → among (own_inodes v) e.inode ≡ false
 unfolding names_users
 users_own v e h = not-true (among (own_inodes v) e.inode) (and_parts _ (not (among (own_inodes v) e.inode)) h).1
@@ -41,37 +39,32 @@ users_own v e h = not-true (among (own_inodes v) e.inode) (and_parts _ (not (amo
 users_readable : (v : Volume) (e : Entry) → failing v ≡ [] → names_users v e ≡ true → IsReadable v e.inode
 users_readable v e none h = record { inode = users_inode v e h; apart = users_apart v e.inode none (users_own v e h) }
 
-push_name : (v : Volume) (names : List (List (List ℕ) × ℕ)) (n : List (List ℕ) × ℕ) → AllReadable v names → IsReadable v n.1 → AllReadable v (push names n)
-push_name v [] n all is = (is, tt)
-push_name v (x ∷ xs) n all is = (all.0, push_name v xs n all.1 is)
-
-follow_named : (v : Volume) (d : Entered) (w : TreeWalk) (e : Entry) → IsReadable v e.inode → AllReadable v w.names → AllReadable v (follow v d w e).names
-follow_named v d w e is h = elim (cases_Bool (is_directory v e.inode)) [
-  | inr other ↦ rw other (push_name v w.names (push d.path e.name, e.inode) h is)
-  | inl directory ↦ elim (cases_Bool (among (inodes_entered w) e.inode)) [
-    | inl again ↦ rw (directory, again) h
-    | inr new ↦ rw (directory, new) (push_name v w.names (push d.path e.name, e.inode) h is)
-  ]
-]
-
-look_named : (v : Volume) (d : Entered) (es : List Entry) (w : TreeWalk) → failing v ≡ [] → AllReadable v w.names → AllReadable v (fold (follow v d) w (filter (names_users v) es)).names
-look_named v d [] w none h = h
-look_named v d (e ∷ es) w none h = elim (cases_Bool (names_users v e)) [
-  | inr other ↦ rw other (look_named v d es w none h)
-  | inl taken ↦ rw taken (look_named v d es (follow v d w e) none (follow_named v d w e (users_readable v e none taken) h))
-]
-
-step_named : (v : Volume) (w : TreeWalk) (o : Option Entered) → failing v ≡ [] → AllReadable v w.names → AllReadable v (option_map_or (look_through v w) o w).names
-step_named v w None none h = h
-step_named v w (Some d) none h = look_named v d (named_entries v d.inode) w none h
-
-walk_named : (v : Volume) (k : ℕ) → failing v ≡ [] → AllReadable v (walk_after v k).names
-walk_named v zero none = (record { inode = root_is_inode v none; apart = directory_apart v v.geo.root none (root_is_directory v none) }, tt)
-walk_named v (suc k) none = step_named v (walk_after v k) (slice_get (walk_after v k).entered k) none (walk_named v k none)
+follow_named : (v : Volume) → failing v ≡ [] → Keeps v (λ w. AllReadable v w.names)
+follow_named v none d w e names h =
+    let is = users_readable v e none names in
+    elim (cases_Bool (is_directory v e.inode)) [
+      | inr other ↦ rw other (all_push (λ n. IsReadable v n.1) w.names (push d.path e.name, e.inode) h is)
+      | inl directory ↦ elim (cases_Bool (among (inodes_entered w) e.inode)) [
+        | inl again ↦ rw (directory, again) h
+        | inr new ↦ rw (directory, new) (all_push (λ n. IsReadable v n.1) w.names (push d.path e.name, e.inode) h is)
+      ]
+    ]
 
 pub tree_named : (v : Volume) → failing v ≡ [] → AllReadable v (tree_walk v).names
 unfolding tree_walk
-tree_named v none = walk_named v (blocks v) none
+tree_named v none =
+    walk_keeps v (λ w. AllReadable v w.names) (follow_named v none)
+    (record { inode = root_is_inode v none; apart = directory_apart v v.geo.root none (root_is_directory v none) }, tt) (blocks v)
+
+pub owned_tell_met_inodes : (v : Volume) (at : ℕ → List ℕ) → failing v ≡ [] → AgreesOnOwned v at → met_inodes (over v at) ≡ met_inodes v
+unfolding met_inodes
+owned_tell_met_inodes v at none agrees = ap (λ (w : TreeWalk). rising (map (λ n. n.1) w.names)) (owned_tell_tree v at none agrees)
+
+pub met_readable : (v : Volume) (b : ℕ) → failing v ≡ [] → Contains (met_inodes v) b → IsReadable v b
+unfolding met_inodes
+met_readable v b none is =
+    let names = (tree_walk v).names in
+    each_of (IsReadable v) (rising (map (λ n. n.1) names)) b (all_rising (IsReadable v) (map (λ n. n.1) names) (all_map (IsReadable v) (λ n. n.1) names (tree_named v none))) is
 
 -- ---- files
 -- the files of these names

@@ -119,3 +119,4 @@ owned_tell_inode v at b none agrees = elim (cases_Bool (has_bit v b)) [
 pub owned_tell_inodes : (v : Volume) (at : ℕ → List ℕ) → failing v ≡ [] → AgreesOnOwned v at → inodes_of (over v at) ≡ inodes_of v
 unfolding inodes_of
 owned_tell_inodes v at none agrees = filter_agree (is_inode (over v at)) (is_inode v) (λ b. owned_tell_inode v at b none agrees) (range_with_len 0 (blocks v))
+

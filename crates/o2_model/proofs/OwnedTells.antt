@@ -8,7 +8,7 @@ use Rattle.o2_model.specs.declared.check.Check.TheVariants as check
 use Rattle.o2_model.specs.Words.{among}
 use Rattle.o2_model.specs.Volume.{Volume, over, blocks}
 use Rattle.o2_model.specs.Inodes.{extents, extent_blocks_of}
-use Rattle.o2_model.specs.Directories.{dir_blocks, directory_entries}
+use Rattle.o2_model.specs.Directories.{dir_blocks, entries_of_block, directory_entries}
 use Rattle.o2_model.specs.Contents.{content_of}
 use Rattle.o2_model.specs.Files.{file_of}
 use Rattle.o2_model.specs.Journals.{journals}
@@ -21,10 +21,9 @@ use Rattle.o2_model.specs.Owned.{is_owned}
 use Rattle.o2_model.specs.Agrees.{AgreesOnOwned}
 use Rattle.o2_model.proofs.NothingFails.{no_check_fails}
 use Rattle.o2_model.proofs.Readings.{extents_same, faults_of_own_list}
-use Rattle.o2_model.proofs.SameEntries.{dir_blocks_same, entries_same}
+use Rattle.o2_model.proofs.SameEntries.{dir_blocks_same}
 use Rattle.o2_model.proofs.SameContents.{content_same, file_same}
-use Rattle.o2_model.proofs.Found.{append_nothing, any_flat, each_of}
-use Rattle.o2_model.proofs.Agreeing.{filter_contains}
+use Rattle.o2_model.proofs.Found.{append_nothing, any_flat, each_of, contains_filter}
 use Rattle.o2_model.proofs.Members.{among_contains}
 use Rattle.o2_model.proofs.WellRead.{extents_well, extent_blocks_are}
 use Rattle.o2_model.proofs.BitsOwned.{dinode_owned, metadata_owned}
@@ -43,7 +42,7 @@ inode_listed v i is = among_contains (inodes_of v) i (among_inodes v i (λ b. i 
 
 pub listed_is_inode : (v : Volume) (i : ℕ) → Contains (inodes_of v) i → is_inode v i ≡ true
 unfolding inodes_of
-listed_is_inode v i is = (filter_contains (is_inode v) (range_with_len 0 (blocks v)) i is).1
+listed_is_inode v i is = (contains_filter (is_inode v) (range_with_len 0 (blocks v)) i is).1
 
 extents_hold : (v : Volume) → failing v ≡ [] → flat_map (extent_faults v) (inodes_of v) ≡ []
 unfolding faults
@@ -89,9 +88,9 @@ owned_tell_dir_blocks v at d none agrees is apart =
     (record { same = λ b h. agrees.same b (directory_owned v d b is apart h) })
 
 pub owned_tell_entries : (v : Volume) (at : ℕ → List ℕ) (d : ℕ) → failing v ≡ [] → AgreesOnOwned v at → is_inode v d ≡ true → among (journals v) d ≡ false → directory_entries (over v at) d ≡ directory_entries v d
+unfolding directory_entries
 owned_tell_entries v at d none agrees is apart =
-    entries_same v at d (dinode_same v at d agrees is) (owned_tell_extents v at d none agrees is)
-    (record { same = λ b h. agrees.same b (directory_owned v d b is apart h) })
+    ap (flat_map entries_of_block) (owned_tell_dir_blocks v at d none agrees is apart)
 
 pub owned_tell_content : (v : Volume) (at : ℕ → List ℕ) (i : ℕ) → failing v ≡ [] → AgreesOnOwned v at → is_inode v i ≡ true → among (journals v) i ≡ false → content_of (over v at) i ≡ content_of v i
 owned_tell_content v at i none agrees is apart =

@@ -16,13 +16,14 @@ use Rattle.o2_model.specs.Checks.RefUsers.{ref_users_faults}
 use Rattle.o2_model.specs.Failing.{faults, failing}
 use Rattle.o2_model.specs.Agrees.{AgreesOnOwned}
 use Rattle.o2_model.proofs.Agreeing.{flat_map_agree, filter_agree_on, fails_agree}
-use Rattle.o2_model.proofs.Members.{contains_filter}
 use Rattle.o2_model.proofs.OwnedTables.{owned_tell_inodes}
 use Rattle.o2_model.proofs.BlockNames.{refcount_block_same}
-use Rattle.o2_model.proofs.RootsKeep.{listed_is_inode, listed_dinode_same, owned_tell_roots, owned_tell_tree_inodes}
+use Rattle.o2_model.proofs.RootsKeep.{listed_dinode_same, owned_tell_roots, owned_tell_tree_inodes}
 use Rattle.o2_model.proofs.RefcountsKeep.{root_same, owned_tell_leaf_list, owned_tell_refcounts}
 use Rattle.o2_model.proofs.MetadataKeeps.{owned_tell_records}
 use Rattle.o2_model.proofs.SharingKeeps.{owned_tell_references}
+use Rattle.o2_model.proofs.Found.{contains_filter}
+use Rattle.o2_model.proofs.OwnedTells.{listed_is_inode}
 
 -- ---- the roots that are refcount blocks
 abbrev good_roots : Volume → List ℕ
@@ -76,9 +77,9 @@ ref_tree_same v at none agrees =
     ap (λ bs. bs ++ flat_map (ref_tree_faults_of (over v at)) (refcount_roots (over v at))) (without_tree_same v at none agrees)
     ∙ ap (λ bs. fails_at (λ b. b) (has_tree v) (filter (has_refcounted v) (inodes_of v)) ++ bs) (all_tree_faults_same v at none agrees)
 
-pub keeps_RefTree : (v : Volume) (at : ℕ → List ℕ) → failing v ≡ [] → AgreesOnOwned v at → faults (over v at) check.RefTree ≡ faults v check.RefTree
+pub keeps_ref_tree : (v : Volume) (at : ℕ → List ℕ) → failing v ≡ [] → AgreesOnOwned v at → faults (over v at) check.RefTree ≡ faults v check.RefTree
 unfolding faults
-keeps_RefTree v at none agrees = ref_tree_same v at none agrees
+keeps_ref_tree v at none agrees = ref_tree_same v at none agrees
 
 -- ---- REF_COVER
 tree_inode_listed : (v : Volume) (root b : ℕ) → Contains (inodes_of_tree v root) b → Contains (inodes_of v) b
@@ -109,9 +110,9 @@ ref_cover_same v at none agrees =
     ap (fails_at (λ root. root) (is_covering (over v at))) (good_roots_same v at none agrees)
     ∙ fails_agree (λ root. root) (is_covering (over v at)) (is_covering v) (good_roots v) (λ root is. covering_same v at root none agrees (good_is_root v root is))
 
-pub keeps_RefCover : (v : Volume) (at : ℕ → List ℕ) → failing v ≡ [] → AgreesOnOwned v at → faults (over v at) check.RefCover ≡ faults v check.RefCover
+pub keeps_ref_cover : (v : Volume) (at : ℕ → List ℕ) → failing v ≡ [] → AgreesOnOwned v at → faults (over v at) check.RefCover ≡ faults v check.RefCover
 unfolding faults
-keeps_RefCover v at none agrees = ref_cover_same v at none agrees
+keeps_ref_cover v at none agrees = ref_cover_same v at none agrees
 
 -- ---- REF_COUNT
 count_faults_same : (v : Volume) (at : ℕ → List ℕ) (root : ℕ) → failing v ≡ [] → AgreesOnOwned v at → Contains (refcount_roots v) root → ref_count_faults_of (over v at) root ≡ ref_count_faults_of v root
@@ -124,9 +125,9 @@ ref_count_same v at none agrees =
     ap (flat_map (ref_count_faults_of (over v at))) (good_roots_same v at none agrees)
     ∙ flat_map_agree (ref_count_faults_of (over v at)) (ref_count_faults_of v) (good_roots v) (λ root is. count_faults_same v at root none agrees (good_is_root v root is))
 
-pub keeps_RefCount : (v : Volume) (at : ℕ → List ℕ) → failing v ≡ [] → AgreesOnOwned v at → faults (over v at) check.RefCount ≡ faults v check.RefCount
+pub keeps_ref_count : (v : Volume) (at : ℕ → List ℕ) → failing v ≡ [] → AgreesOnOwned v at → faults (over v at) check.RefCount ≡ faults v check.RefCount
 unfolding faults
-keeps_RefCount v at none agrees = ref_count_same v at none agrees
+keeps_ref_count v at none agrees = ref_count_same v at none agrees
 
 -- ---- REF_USERS
 -- the root tells the number of the tree's inodes
@@ -141,6 +142,6 @@ ref_users_same v at none agrees =
     ap (fails_at (λ root. root) (tells_users (over v at))) (good_roots_same v at none agrees)
     ∙ fails_agree (λ root. root) (tells_users (over v at)) (tells_users v) (good_roots v) (λ root is. users_same v at root none agrees (good_is_root v root is))
 
-pub keeps_RefUsers : (v : Volume) (at : ℕ → List ℕ) → failing v ≡ [] → AgreesOnOwned v at → faults (over v at) check.RefUsers ≡ faults v check.RefUsers
+pub keeps_ref_users : (v : Volume) (at : ℕ → List ℕ) → failing v ≡ [] → AgreesOnOwned v at → faults (over v at) check.RefUsers ≡ faults v check.RefUsers
 unfolding faults
-keeps_RefUsers v at none agrees = ref_users_same v at none agrees
+keeps_ref_users v at none agrees = ref_users_same v at none agrees

@@ -92,6 +92,22 @@ none_rising (n ∷ ns) h =
     let there : finite.get m n ≡ Some (tt {0}) = finite.get-from_entries nat_cmp_total (marks (n ∷ ns)) n ∙ ap (λ r. cond (is_eq r) (Some (tt {0})) (finite.find nat_cmp n (marks ns))) (tied_itself nat_cmp_total n) in
     let e : None ≡ Some (tt {0}) = sym absent ∙ there in cc
 
+-- What holds of all of them holds of all of them in order.
+all_with : (P : ℕ → Type 0) (n : ℕ) (ms : List ℕ) → P n → AllByRecursion P ms → AllByRecursion P (with_number n ms)
+all_with P n [] is all = (is, tt)
+all_with P n (m ∷ ms) is all = elim (cases_Bool (nat_lt n m)) [
+  | inl first ↦ rw first (is, all)
+  | inr later ↦ elim (cases_Bool (n == m)) [
+    | inl again ↦ rw (later, again) all
+    | inr new ↦ rw (later, new) (all.0, all_with P n ms is all.1)
+  ]
+]
+
+pub all_rising : (P : ℕ → Type 0) (ns : List ℕ) → AllByRecursion P ns → AllByRecursion P (rising ns)
+all_rising P [] all = tt
+all_rising P (n ∷ ns) all = all_with P n (rising ns) all.0 (all_rising P ns all.1)
+
+-- ---- by a sort and a `dedup`
 -- ---- what is among them
 
 or_twice : (a b : Bool) → (a || b) ≡ (a || (a || b))

@@ -1,22 +1,17 @@
 -- Where nothing fails, blocks that agree on the owned ones have the same refcount roots, and the same inodes of each tree.
-use Rattle.std.proofs.Common.{◌≡◌, ℕ, true, ◌&&◌, ◌==◌, List, [], map, refl, ◌∙◌, ap}
+use Rattle.std.proofs.Common.{◌≡◌, ℕ, ◌&&◌, ◌==◌, List, [], map, refl, ◌∙◌, ap}
 use Rattle.std.specs.Prelude.{filter}
-use Rattle.std.specs.List.{Contains, range_with_len}
+use Rattle.std.specs.List.{Contains}
 use Rattle.o2_model.specs.Orders.{rising}
-use Rattle.o2_model.specs.Volume.{Volume, over, blocks, dinode}
-use Rattle.o2_model.specs.Groups.{is_inode, inodes_of}
+use Rattle.o2_model.specs.Volume.{Volume, over, dinode}
+use Rattle.o2_model.specs.Groups.{inodes_of}
 use Rattle.o2_model.specs.RefcountTrees.{has_refcount, refcount_roots, inodes_of_tree}
 use Rattle.o2_model.specs.Failing.{failing}
 use Rattle.o2_model.specs.Agrees.{AgreesOnOwned}
 use Rattle.o2_model.proofs.Agreeing.{map_agree, filter_agree_on}
-use Rattle.o2_model.proofs.Members.{contains_filter}
-use Rattle.o2_model.proofs.OwnedTells.{dinode_same}
+use Rattle.o2_model.proofs.OwnedTells.{dinode_same, listed_is_inode}
 use Rattle.o2_model.proofs.OwnedTables.{owned_tell_inodes}
-
--- ---- inodes of the volume's list
-pub listed_is_inode : (v : Volume) (b : ℕ) → Contains (inodes_of v) b → is_inode v b ≡ true
-unfolding inodes_of
-listed_is_inode v b is = (contains_filter (is_inode v) (range_with_len 0 (blocks v)) b is).1
+use Rattle.o2_model.proofs.Found.{contains_filter}
 
 pub listed_dinode_same : (v : Volume) (at : ℕ → List ℕ) (b : ℕ) → AgreesOnOwned v at → Contains (inodes_of v) b → at b ≡ v.at b
 listed_dinode_same v at b agrees is = dinode_same v at b agrees (listed_is_inode v b is)

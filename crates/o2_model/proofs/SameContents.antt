@@ -109,7 +109,7 @@ content_kind v at b bytes entries (Some Block) = refl
 content_kind v at b bytes entries (Some Fifo) = refl
 content_kind v at b bytes entries (Some Socket) = refl
 
-kind_same : (v : Volume) (at : ℕ → List ℕ) (b : ℕ) → at b ≡ v.at b → kind (over v at) b ≡ kind v b
+pub kind_same : (v : Volume) (at : ℕ → List ℕ) (b : ℕ) → at b ≡ v.at b → kind (over v at) b ≡ kind v b
 kind_same v at b inode = ap (λ bytes. kind_of_mode (dinode_of bytes).mode) inode
 
 -- What the inode holds is the same.

@@ -9,7 +9,7 @@ use Rattle.o2_model.specs.declared.allocator.Group.{Group}
 use Rattle.o2_model.specs.Words.{among}
 use Rattle.o2_model.specs.Volume.{Volume, over, blocks, is_valid}
 use Rattle.o2_model.specs.Inodes.{is_directory}
-use Rattle.o2_model.specs.Directories.{directory_entries, Entry, is_dot, named_entries}
+use Rattle.o2_model.specs.Directories.{directory_entries, Entry, is_dot, named_entries, own_inodes}
 use Rattle.o2_model.specs.Allocators.{are_inodes, allocators}
 use Rattle.o2_model.specs.Groups.{group_walk, is_bit_set_in, groups, is_bit_set, bit_of_block, is_on_set_bit, is_inode, inodes_of}
 use Rattle.o2_model.specs.Tree.{names_users, followed, tree_walk}
@@ -54,25 +54,30 @@ inode_at_same : (v : Volume) (at : ℕ → List ℕ) → SameTables v at → (b 
 unfolding is_inode
 inode_at_same v at same b h = same.inodes b (and_parts _ _ h).1
 
-users_same : (v : Volume) (at : ℕ → List ℕ) → SameTables v at → (e : Entry) → names_users (over v at) e ≡ names_users v e
+pub users_same : (v : Volume) (at : ℕ → List ℕ) (e : Entry) → is_inode (over v at) e.inode ≡ is_inode v e.inode → own_inodes (over v at) ≡ own_inodes v
+    → (is_inode v e.inode ≡ true → at e.inode ≡ v.at e.inode) → names_users (over v at) e ≡ names_users v e
 unfolding names_users
-users_same v at same e = elim (cases_Bool (is_inode v e.inode)) [
-  | inl there ↦ rw (is_inode-same v at same e.inode, same.own, inode_at_same v at same e.inode there) refl
-  | inr absent ↦ rw (is_inode-same v at same e.inode, absent) refl
+users_same v at e inode own same = elim (cases_Bool (is_inode v e.inode)) [
+  | inl there ↦ rw (inode, own, same there) refl
+  | inr absent ↦ rw (inode, absent) refl
 ]
 
 pub followed-same : (v : Volume) (at : ℕ → List ℕ) → SameTables v at → (d : ℕ) → IsIn v d → followed (over v at) d ≡ followed v d
 followed-same v at same d inside =
     ap (λ es. filter (names_users (over v at)) (filter (λ e. not (is_dot e)) es)) (same.entries d inside)
-    ∙ filter_agree (names_users (over v at)) (names_users v) (users_same v at same) (named_entries v d)
+    ∙ filter_agree (names_users (over v at)) (names_users v) (λ e. users_same v at e (is_inode-same v at same e.inode) same.own (inode_at_same v at same e.inode)) (named_entries v d)
 
-directory_same : (v : Volume) (at : ℕ → List ℕ) (b : ℕ) → at b ≡ v.at b → is_directory (over v at) b ≡ is_directory v b
+pub directory_same : (v : Volume) (at : ℕ → List ℕ) (b : ℕ) → at b ≡ v.at b → is_directory (over v at) b ≡ is_directory v b
 unfolding is_directory
 directory_same v at b same = rw same refl
 
 -- The tree is the same.
 pub tree-same : (v : Volume) (at : ℕ → List ℕ) → SameTables v at → tree_walk (over v at) ≡ tree_walk v
-tree-same v at same = tree_walk-same v at (record { kind = λ b inode. directory_same v at b (inode_at_same v at same b inode); entries = followed-same v at same })
+tree-same v at same = tree_walk-same v at (IsIn v) (record {
+  good = record { root = inl refl; named = λ b inode directory. inr inode };
+  kind = λ b inode. directory_same v at b (inode_at_same v at same b inode);
+  entries = followed-same v at same;
+})
 
 -- ---- from blocks to tables
 bits_of_bytes : (v : Volume) (at : ℕ → List ℕ) (b k : ℕ) → at b ≡ v.at b → is_bit_set (over v at) b k ≡ is_bit_set v b k

@@ -1,21 +1,19 @@
 -- Where nothing fails, blocks that agree on the owned ones keep the checks of the root, the system directory, its files and the slot
 -- map.
-use Rattle.std.proofs.Common.{◌≡◌, inl, inr, ℕ, Bool, true, false, not, ◌&&◌, ◌==◌, List, [], ◌++◌, map, refl, ◌∙◌, ap, Option, Some, None}
+use Rattle.std.proofs.Common.{◌≡◌, inl, inr, ℕ, Bool, true, false, not, ◌&&◌, ◌==◌, List, [], ◌++◌, map, refl, ◌∙◌, ap}
 use Rattle.std.specs.Prelude.{filter}
 use Rattle.std.specs.Option.{option_map_or}
 use Rattle.std.proofs.lemmas.Bool.{cases_Bool}
-use Rattle.o2_ondisk.specs.declared.kind.Kind.{Kind}
-use Rattle.o2_ondisk.specs.declared.kind.Kind.TheVariants.{File, Directory, Character, Block, Fifo, Socket, Link}
 use Rattle.o2_model.specs.declared.check.Check.TheVariants as check
 use Rattle.o2_model.specs.declared.system_file.SystemFile.TheVariants.{SlotMap}
 use Rattle.o2_model.specs.Words.{fails_unless, fails_at}
 use Rattle.o2_model.specs.Orders.{later_like, is_none_of}
 use Rattle.o2_model.specs.Volume.{Volume, over, is_valid}
-use Rattle.o2_model.specs.Inodes.{kind, is_directory, is_file, is_inline, extents, leaf_records}
-use Rattle.o2_model.specs.Directories.{Entry, dir_blocks, directory_entries, is_dot, own_inodes}
+use Rattle.o2_model.specs.Inodes.{is_directory, is_file, extents, leaf_records}
+use Rattle.o2_model.specs.Directories.{Entry, directory_entries, is_dot}
 use Rattle.o2_model.specs.SystemFiles.{required_files, system_inode}
 use Rattle.o2_model.specs.Groups.{is_inode}
-use Rattle.o2_model.specs.Checks.InodeSize.{is_size_of_kind, has_sound_size, inode_size_faults}
+use Rattle.o2_model.specs.Checks.InodeSize.{inode_size_faults}
 use Rattle.o2_model.specs.Checks.DirBlock.{is_sound_dir_block, dir_block_faults}
 use Rattle.o2_model.specs.Checks.DirentName.{dirent_name_faults}
 use Rattle.o2_model.specs.Checks.DirentDup.{dirent_dup_faults}
@@ -25,22 +23,23 @@ use Rattle.o2_model.specs.Checks.Sysfile.{is_there, has_system_files, has_flags_
 use Rattle.o2_model.specs.Checks.SlotMap.{is_sound_slot_map}
 use Rattle.o2_model.specs.Failing.{faults, failing}
 use Rattle.o2_model.specs.Agrees.{AgreesOnOwned}
-use Rattle.o2_model.proofs.SameAllocators.{inode_same, own_same}
+use Rattle.o2_model.proofs.SameAllocators.{inode_same}
 use Rattle.o2_model.proofs.Agreeing.{all_agree, fails_agree, option_agree}
 use Rattle.o2_model.proofs.SystemOwned.{root_is_inode, sysdir_is_inode, sysdir_is_directory, file_is_inode, directory_apart}
 use Rattle.o2_model.proofs.OwnedTells.{dinode_same, owned_tell_extents, owned_tell_dir_blocks, owned_tell_entries}
 use Rattle.o2_model.proofs.OwnedTables.{owned_tell_system_files, valid_same, owned_tell_inode}
-use Rattle.o2_model.proofs.OwnedTree.{kind_same}
+use Rattle.o2_model.proofs.SameInodes.{directory_same}
 use Rattle.o2_model.proofs.JournalsKeep.{extent_faults_same}
+use Rattle.o2_model.proofs.InodeChecksKeep.{sound_size_same}
 
 -- ---- the root
 root_same : (v : Volume) (at : ℕ → List ℕ) → at v.geo.root ≡ v.at v.geo.root → is_sound_root (over v at) ≡ is_sound_root v
 unfolding is_sound_root
-root_same v at same = rw (valid_same v at v.geo.root same, kind_same v at v.geo.root same) refl
+root_same v at same = rw (valid_same v at v.geo.root same, directory_same v at v.geo.root same) refl
 
-pub keeps_Root : (v : Volume) (at : ℕ → List ℕ) → failing v ≡ [] → AgreesOnOwned v at → faults (over v at) check.Root ≡ faults v check.Root
+pub keeps_root : (v : Volume) (at : ℕ → List ℕ) → failing v ≡ [] → AgreesOnOwned v at → faults (over v at) check.Root ≡ faults v check.Root
 unfolding faults
-keeps_Root v at none agrees = ap (fails_unless v.geo.root) (root_same v at (dinode_same v at v.geo.root agrees (root_is_inode v none)))
+keeps_root v at none agrees = ap (fails_unless v.geo.root) (root_same v at (dinode_same v at v.geo.root agrees (root_is_inode v none)))
 
 -- ---- the slot map
 slot_map_same : (v : Volume) (at : ℕ → List ℕ) (b : ℕ) → extents (over v at) b ≡ extents v b → is_sound_slot_map (over v at) b ≡ is_sound_slot_map v b
@@ -49,48 +48,27 @@ slot_map_same v at b list =
     let records : leaf_records (over v at) b ≡ leaf_records v b = ap (λ t. t.leaves) list in
     rw (extent_faults_same v at b list, records) refl
 
-pub keeps_SlotMap : (v : Volume) (at : ℕ → List ℕ) → failing v ≡ [] → AgreesOnOwned v at → faults (over v at) check.SlotMap ≡ faults v check.SlotMap
+pub keeps_slot_map : (v : Volume) (at : ℕ → List ℕ) → failing v ≡ [] → AgreesOnOwned v at → faults (over v at) check.SlotMap ≡ faults v check.SlotMap
 unfolding faults
-keeps_SlotMap v at none agrees =
+keeps_slot_map v at none agrees =
     ap (λ o. option_map_or (λ b. fails_unless b (is_sound_slot_map (over v at) b)) o []) (inode_same v at (owned_tell_system_files v at none agrees) SlotMap)
-    ∙ option_agree (λ b. fails_unless b (is_sound_slot_map (over v at) b)) (λ b. fails_unless b (is_sound_slot_map v b)) [] (system_inode v SlotMap)
+    ∙ option_agree (λ b. fails_unless b (is_sound_slot_map (over v at) b)) (λ b. fails_unless b (is_sound_slot_map v b)) (system_inode v SlotMap) []
     (λ b named. ap (fails_unless b) (slot_map_same v at b (owned_tell_extents v at b none agrees (file_is_inode v SlotMap b none named))))
 
 -- ---- the system directory
--- the size of what an inode is, where its blocks and the volume's own inodes are the same
-size_of_kind_same : (v : Volume) (at : ℕ → List ℕ) (b : ℕ) (o : Option Kind) → at b ≡ v.at b → leaf_records (over v at) b ≡ leaf_records v b
-    → dir_blocks (over v at) b ≡ dir_blocks v b → own_inodes (over v at) ≡ own_inodes v → is_size_of_kind (over v at) b o ≡ is_size_of_kind v b o
-size_of_kind_same v at b (Some Directory) same records blocks own = rw (same, blocks) refl
-size_of_kind_same v at b (Some Link) same records blocks own = rw (same, records) refl
-size_of_kind_same v at b (Some File) same records blocks own = rw (same, own) refl
-size_of_kind_same v at b (Some Character) same records blocks own = refl
-size_of_kind_same v at b (Some Block) same records blocks own = refl
-size_of_kind_same v at b (Some Fifo) same records blocks own = refl
-size_of_kind_same v at b (Some Socket) same records blocks own = refl
-size_of_kind_same v at b None same records blocks own = refl
-
-size_same : (v : Volume) (at : ℕ → List ℕ) (b : ℕ) → at b ≡ v.at b → leaf_records (over v at) b ≡ leaf_records v b
-    → dir_blocks (over v at) b ≡ dir_blocks v b → own_inodes (over v at) ≡ own_inodes v → has_sound_size (over v at) b ≡ has_sound_size v b
-unfolding has_sound_size
-size_same v at b same records blocks own = elim (cases_Bool (is_inline v b)) [
-  | inl inline ↦ rw (same, inline) refl
-  | inr outside ↦ rw (same, outside) (size_of_kind_same v at b (kind v b) same records blocks own)
-]
-
 -- those of the five checks that ask for entries
 entry_faults_same : (v : Volume) (at : ℕ → List ℕ) (d : ℕ) → directory_entries (over v at) d ≡ directory_entries v d
     → (dirent_name_faults (over v at) d ≡ dirent_name_faults v d) × (dirent_dup_faults (over v at) d ≡ dirent_dup_faults v d)
 entry_faults_same v at d entries = (rw entries refl, rw entries refl)
 
 -- all five fail at the same blocks of a directory
-directory_same : (v : Volume) (at : ℕ → List ℕ) (d : ℕ) → failing v ≡ [] → AgreesOnOwned v at → is_inode v d ≡ true → is_directory v d ≡ true → directory_faults (over v at) d ≡ directory_faults v d
-directory_same v at d none agrees is directory =
+directory_faults_same : (v : Volume) (at : ℕ → List ℕ) (d : ℕ) → failing v ≡ [] → AgreesOnOwned v at → is_inode v d ≡ true → is_directory v d ≡ true → directory_faults (over v at) d ≡ directory_faults v d
+directory_faults_same v at d none agrees is directory =
     let apart = directory_apart v d none directory in
     let list = owned_tell_extents v at d none agrees is in
     let blocks = owned_tell_dir_blocks v at d none agrees is apart in
-    let own = own_same v at (owned_tell_system_files v at none agrees) in
     let size : inode_size_faults (over v at) d ≡ inode_size_faults v d
-    = ap (fails_unless d) (size_same v at d (dinode_same v at d agrees is) (ap (λ t. t.leaves) list) blocks own) in
+    = ap (fails_unless d) (sound_size_same v at d none agrees is) in
     let entries = entry_faults_same v at d (owned_tell_entries v at d none agrees is apart) in
     let extent = extent_faults_same v at d list in
     let of_blocks : dir_block_faults (over v at) d ≡ dir_block_faults v d = ap (fails_at (λ b. b.block) is_sound_dir_block) blocks in
@@ -103,14 +81,14 @@ pub owned_tell_sound_directory : (v : Volume) (at : ℕ → List ℕ) (d : ℕ) 
 unfolding is_sound_directory
 owned_tell_sound_directory v at d none agrees is directory =
     let same = dinode_same v at d agrees is in
-    let all = directory_same v at d none agrees is directory in
+    let all = directory_faults_same v at d none agrees is directory in
     ap (λ x. x && is_directory (over v at) d && is_none_of (directory_faults (over v at) d)) (valid_same v at d same)
-    ∙ (ap (λ x. is_valid v d && x && is_none_of (directory_faults (over v at) d)) (kind_same v at d same)
+    ∙ (ap (λ x. is_valid v d && x && is_none_of (directory_faults (over v at) d)) (directory_same v at d same)
     ∙ ap (λ ns. is_valid v d && is_directory v d && is_none_of ns) all)
 
-pub keeps_Sysdir : (v : Volume) (at : ℕ → List ℕ) → failing v ≡ [] → AgreesOnOwned v at → faults (over v at) check.Sysdir ≡ faults v check.Sysdir
+pub keeps_sysdir : (v : Volume) (at : ℕ → List ℕ) → failing v ≡ [] → AgreesOnOwned v at → faults (over v at) check.Sysdir ≡ faults v check.Sysdir
 unfolding faults
-keeps_Sysdir v at none agrees = ap (fails_unless v.geo.sysdir) (owned_tell_sound_directory v at v.geo.sysdir none agrees (sysdir_is_inode v none) (sysdir_is_directory v none))
+keeps_sysdir v at none agrees = ap (fails_unless v.geo.sysdir) (owned_tell_sound_directory v at v.geo.sysdir none agrees (sysdir_is_inode v none) (sysdir_is_directory v none))
 
 -- ---- its files
 flags_same : (v : Volume) (at : ℕ → List ℕ) (e : Entry) → at e.inode ≡ v.at e.inode → has_flags_of_name (over v at) e ≡ has_flags_of_name v e
@@ -144,9 +122,9 @@ abbrev file_faults : Volume → Bool → (Entry → Bool) → List Entry → Lis
 file_faults v there holds es =
     fails_unless v.geo.sysdir there ++ fails_at (λ e. e.inode) holds es ++ map (λ e. e.inode) (later_like (λ e f. e.inode == f.inode) es)
 
-pub keeps_Sysfile : (v : Volume) (at : ℕ → List ℕ) → failing v ≡ [] → AgreesOnOwned v at → faults (over v at) check.Sysfile ≡ faults v check.Sysfile
+pub keeps_sysfile : (v : Volume) (at : ℕ → List ℕ) → failing v ≡ [] → AgreesOnOwned v at → faults (over v at) check.Sysfile ≡ faults v check.Sysfile
 unfolding faults
-keeps_Sysfile v at none agrees =
+keeps_sysfile v at none agrees =
     let files = owned_tell_system_files v at none agrees in
     ap (λ there. file_faults v there (is_sound_system_entry (over v at)) (system_entries (over v at))) (there_same v at none agrees)
     ∙ (ap (λ es. file_faults v (has_system_files v) (is_sound_system_entry (over v at)) (filter (λ e. not (is_dot e)) es)) files.entries

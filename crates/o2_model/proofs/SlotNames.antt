@@ -1,11 +1,11 @@
 -- The name of a slot's file tells the slot.
-use Rattle.std.proofs.Common.{◌≡◌, ℕ, ◌-◌, ◌%◌, ◌<◌, Bool, true, false, List, drop, length, refl, sym, ◌∙◌, ap, arith, Some, None, cond}
-use Rattle.std.specs.Prelude.{bytes_eq, unwrap_or}
+use Rattle.std.proofs.Common.{◌≡◌, ℕ, ◌-◌, ◌/◌, ◌%◌, ◌<◌, Bool, true, false, List, ◌++◌, drop, length, refl, sym, ◌∙◌, ap, arith, Some, None, cond}
+use Rattle.std.specs.Prelude.{bytes_eq, codes, unwrap_or}
 use Rattle.std.proofs.lemmas.Slice.Eq.{bytes_eq-Decides}
 use Rattle.o2_model.specs.declared.system_file.SlotFile.{SlotFile}
 use Rattle.o2_model.specs.declared.system_file.SlotFile.TheVariants.{OrphanDir, ExtentAlloc, InodeAlloc, Journal, LocalAlloc, TruncateLog}
 use Rattle.o2_model.specs.declared.system_file.SystemFile.TheVariants.{OfSlot}
-use Rattle.o2_model.specs.SystemFiles.{decimal_number, slot_digits, slot_in_name, system_name}
+use Rattle.o2_model.specs.SystemFiles.{decimal_number, slot_digits, slot_file_name, slot_in_name, system_name}
 
 -- the number of the four digits of a slot
 number-digits : (slot : ℕ) → decimal_number (slot_digits slot) ≡ slot % 10000
@@ -27,11 +27,26 @@ number-name file slot = ap decimal_number (last_four file slot) ∙ number-digit
 same_bytes : (xs : List ℕ) → bytes_eq xs xs ≡ true
 same_bytes xs = (bytes_eq-Decides xs xs).1 refl
 
-pub slot_told : (file : SlotFile) (slot : ℕ) → slot < 10000 → slot_in_name file (system_name (OfSlot file slot)) ≡ Some slot
+-- four digits do not tell slots apart that differ by 10000
+same_digits : (slot : ℕ) → slot_digits (slot % 10000) ≡ slot_digits slot
+same_digits slot =
+    let thousands : slot % 10000 / 1000 % 10 ≡ slot / 1000 % 10 = omega arith in
+    let hundreds : slot % 10000 / 100 % 10 ≡ slot / 100 % 10 = omega arith in
+    let tens : slot % 10000 / 10 % 10 ≡ slot / 10 % 10 = omega arith in
+    let ones : slot % 10000 % 10 ≡ slot % 10 = omega arith in
+    cc
+
+same_name : (file : SlotFile) (slot : ℕ) → system_name (OfSlot file (slot % 10000)) ≡ system_name (OfSlot file slot)
+unfolding system_name
+same_name file slot = ap (λ digits. slot_file_name file ++ codes ":" ++ digits) (same_digits slot)
+
+-- a name of four digits tells what they tell
+pub slot_told_by_digits : (file : SlotFile) (slot : ℕ) → slot_in_name file (system_name (OfSlot file slot)) ≡ Some (slot % 10000)
 unfolding slot_in_name
-slot_told file slot small =
-    let number : decimal_number (drop (length (system_name (OfSlot file slot)) - 4) (system_name (OfSlot file slot))) ≡ slot = number-name file slot ∙ omega arith in
-    rw (number, same_bytes (system_name (OfSlot file slot))) refl
+slot_told_by_digits file slot = rw (number-name file slot, same_name file slot, same_bytes (system_name (OfSlot file slot))) refl
+
+pub slot_told : (file : SlotFile) (slot : ℕ) → slot < 10000 → slot_in_name file (system_name (OfSlot file slot)) ≡ Some slot
+slot_told file slot small = let number : slot % 10000 ≡ slot = omega arith in slot_told_by_digits file slot ∙ ap (λ n. Some n) number
 
 chosen : (test : Bool) (n slot : ℕ) → cond test (Some n) None ≡ Some slot → (test ≡ true) × (n ≡ slot)
 chosen true n slot h = (refl, ap (λ o. unwrap_or o n) h)

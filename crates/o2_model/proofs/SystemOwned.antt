@@ -3,7 +3,7 @@ use Rattle.std.proofs.Common.{◌≡◌, inl, inr, ℕ, Bool, true, false, ◌&&
 use Rattle.std.specs.Prelude.{filter, codes, bytes_eq, is_some, option_map}
 use Rattle.std.specs.List.{AllByRecursion, Contains}
 use Rattle.std.specs.Option.{option_map_or}
-use Rattle.std.proofs.lemmas.Bool.{cases_Bool, and_from, and_parts, or_right, eq-eqb, eqb-true, false≢true, cond-false, not_from_false}
+use Rattle.std.proofs.lemmas.Bool.{cases_Bool, and_from, and_parts, or_right, eq-eqb, eqb-true, false≢true, cond-true, cond-false, not_from_false}
 use Rattle.std.proofs.lemmas.Slice.Eq.{bytes_eq-Decides}
 use Rattle.o2_ondisk.specs.declared.kind.Kind.{Kind}
 use Rattle.o2_ondisk.specs.declared.kind.Kind.TheVariants.{File, Directory, Character, Block, Fifo, Socket, Link}
@@ -23,7 +23,7 @@ use Rattle.o2_model.specs.Checks.Root.{is_sound_root, root_faults}
 use Rattle.o2_model.specs.Checks.Sysfile.{has_system_files, is_name_of_slot, has_kind_of_name, is_sound_system_entry, system_entries, sysfile_faults}
 use Rattle.o2_model.specs.Failing.{faults, failing}
 use Rattle.o2_model.proofs.NothingFails.{no_check_fails}
-use Rattle.o2_model.proofs.SlotNames.{slot_only}
+use Rattle.o2_model.proofs.SlotNames.{slot_only, slot_told_by_digits}
 use Rattle.o2_model.proofs.Failing.{none_fails}
 use Rattle.o2_model.proofs.Found.{append_nothing, found, any_map, any_filter, passing, any_flat, find_passing, each_of}
 
@@ -153,6 +153,15 @@ pub file_is_inode : (v : Volume) (file : SystemFile) (b : ℕ) → failing v ≡
 file_is_inode v file b none h =
     let named = named_file v file b none h in
     subst (λ x. is_inode v x ≡ true) named.inode (sound_parts v named.entry named.sound).0
+
+-- and what is found by the name of an orphan directory is a directory
+pub orphan_directory_is : (v : Volume) (slot b : ℕ) → failing v ≡ [] → system_inode v (OfSlot OrphanDir slot) ≡ Some b → is_directory v b ≡ true
+unfolding has_kind_of_name
+orphan_directory_is v slot b none h =
+    let named = named_file v (OfSlot OrphanDir slot) b none h in
+    let told : is_name_of_slot OrphanDir named.entry ≡ true
+    = ap (λ name. is_some (slot_in_name OrphanDir name)) (name_is named.entry (system_name (OfSlot OrphanDir slot)) named.name) ∙ ap is_some (slot_told_by_digits OrphanDir slot) in
+    subst (λ x. is_directory v x ≡ true) named.inode (and_parts (is_directory v named.entry.inode) _ (sym (cond-true (is_name_of_slot OrphanDir named.entry) _ _ told) ∙ (sound_parts v named.entry named.sound).1)).0
 
 -- ---- journals
 two_names : (s t : ℕ) → bytes_eq (system_name (OfSlot Journal s)) (system_name (OfSlot OrphanDir t)) ≡ false

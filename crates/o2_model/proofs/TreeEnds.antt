@@ -1,6 +1,5 @@
 -- The walk of the tree ends: each directory that it enters is looked through, whatever its bound.
-use Rattle.std.proofs.Common.{◌≡◌, inl, inr, ⊎_elim, ℕ, zero, suc, ◌+◌, ◌<◌, ◌≤◌, true, false, ◌||◌, eqb, List, [], ◌∷◌, length, sym, ◌∙◌, ap, subst, arith, Option, Some, None}
-use Rattle.std.specs.Prelude.{fold, filter}
+use Rattle.std.proofs.Common.{◌≡◌, inl, inr, ⊎_elim, ℕ, zero, suc, ◌+◌, ◌<◌, ◌≤◌, true, false, ◌||◌, eqb, List, [], ◌∷◌, length, sym, ◌∙◌, ap, subst, arith}
 use Rattle.std.specs.List.{list_any, IsDistinct}
 use Rattle.std.specs.Option.{option_map_or}
 use Rattle.std.proofs.lemmas.Bool.{cases_Bool, or_cases, eqb-true, false≢true}
@@ -13,11 +12,12 @@ use Rattle.std.proofs.lemmas.Map.Steps.{length-le_from_distinct_below}
 use Rattle.o2_model.specs.Words.{among}
 use Rattle.o2_model.specs.Volume.{Volume, blocks, is_valid}
 use Rattle.o2_model.specs.Inodes.{is_directory}
-use Rattle.o2_model.specs.Directories.{Entry, named_entries}
+use Rattle.o2_model.specs.Directories.{Entry}
 use Rattle.o2_model.specs.Groups.{is_inode}
 use Rattle.std.proofs.lemmas.Option.{slice_get_past}
 use Rattle.o2_model.specs.Frames.{entered_inodes as inodes_entered}
-use Rattle.o2_model.specs.Tree.{Entered, TreeWalk, names_users, follow, look_through, walk_after, tree_walk}
+use Rattle.o2_model.proofs.TreeWalks.{Keeps, walk_keeps}
+use Rattle.o2_model.specs.Tree.{Entered, TreeWalk, names_users, look_through, walk_after, tree_walk}
 
 -- no number stands there twice, and each is below n
 pub record IsApart (n : ℕ) (ns : List ℕ) : Type 0 where
@@ -32,8 +32,8 @@ named_within : (v : Volume) (p : Entry) → names_users v p ≡ true → p.inode
 unfolding names_users is_inode is_valid
 named_within v p h = grind (arith, nat_tests)
 
-apart_follow : (v : Volume) (d : Entered) (w : TreeWalk) (p : Entry) → p.inode < blocks v → IsApart (blocks v) (inodes_entered w) → IsApart (blocks v) (inodes_entered (follow v d w p))
-apart_follow v d w p low h = elim (cases_Bool (is_directory v p.inode)) [
+apart_follow : (v : Volume) → Keeps v (λ w. IsApart (blocks v) (inodes_entered w))
+apart_follow v d w p names h = elim (cases_Bool (is_directory v p.inode)) [
   | inr other ↦ rw other h
   | inl directory ↦ elim (cases_Bool (among (inodes_entered w) p.inode)) [
     | inl again ↦ rw (directory, again) h
@@ -43,33 +43,21 @@ apart_follow v d w p low h = elim (cases_Bool (is_directory v p.inode)) [
           let parts : (list_any (eqb b) (inodes_entered w) || (eqb b p.inode || false)) ≡ true
           = sym (ap (list_any (eqb b)) (map-append (λ (e : Entered). e.inode) w.entered _) ∙ list_any-append (eqb b) (inodes_entered w) (p.inode ∷ [])) ∙ named in
           ⊎_elim (λ old. h.within b old)
-          (λ last. ⊎_elim (λ same. omega (arith, eqb-true b p.inode same)) (λ e. absurd (false≢true e)) (or_cases (eqb b p.inode) false last))
+          (λ last. ⊎_elim (λ same. omega (arith, eqb-true b p.inode same, named_within v p names)) (λ e. absurd (false≢true e)) (or_cases (eqb b p.inode) false last))
           (or_cases _ _ parts);
     })
   ]
 ]
-
-apart_entries : (v : Volume) (d : Entered) (ps : List Entry) (w : TreeWalk) → IsApart (blocks v) (inodes_entered w) → IsApart (blocks v) (inodes_entered (fold (follow v d) w (filter (names_users v) ps)))
-apart_entries v d [] w h = h
-apart_entries v d (p ∷ ps) w h = elim (cases_Bool (names_users v p)) [
-  | inl taken ↦ rw taken (apart_entries v d ps (follow v d w p) (apart_follow v d w p (named_within v p taken) h))
-  | inr other ↦ rw other (apart_entries v d ps w h)
-]
-
-apart_step : (v : Volume) (w : TreeWalk) (o : Option Entered) → IsApart (blocks v) (inodes_entered w) → IsApart (blocks v) (inodes_entered (option_map_or (look_through v w) o w))
-apart_step v w None h = h
-apart_step v w (Some d) h = apart_entries v d (named_entries v d.inode) w h
 
 one_distinct : (n : ℕ) → IsDistinct eqb (n ∷ [])
 unfolding IsDistinct
 one_distinct n = (tt, tt)
 
 pub apart_after : (v : Volume) → v.geo.root < blocks v → (k : ℕ) → IsApart (blocks v) (inodes_entered (walk_after v k))
-apart_after v root zero = record {
+apart_after v root k = walk_keeps v (λ w. IsApart (blocks v) (inodes_entered w)) (apart_follow v) (record {
   apart = one_distinct v.geo.root;
   within = λ b named. ⊎_elim (λ same. omega (arith, eqb-true b v.geo.root same)) (λ e. absurd (false≢true e)) (or_cases (eqb b v.geo.root) false named);
-}
-apart_after v root (suc k) = apart_step v (walk_after v k) _ (apart_after v root k)
+}) k
 
 -- Past its bound the walk stands still.
 pub walk_ends : (v : Volume) → v.geo.root < blocks v → (k : ℕ) → walk_after v (k + blocks v) ≡ tree_walk v
