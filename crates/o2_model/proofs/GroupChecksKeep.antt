@@ -1,12 +1,11 @@
 -- Where nothing fails, blocks that agree on the owned ones have the same allocators, and the checks of allocators, groups and bits
 -- fail where they fail on the volume.
 use Rattle.std.proofs.Common.{◌≡◌, ℕ, ◌%◌, ◌^◌, Bool, not, ◌&&◌, ◌||◌, ◌==◌, List, [], map, refl, ◌∙◌, ap}
-use Rattle.std.specs.Prelude.{filter, find, flat_map, sum_by}
+use Rattle.std.specs.Prelude.{filter, flat_map, sum_by}
 use Rattle.std.specs.List.{Contains, list_all, enumerate_from}
 use Rattle.std.proofs.lemmas.Bool.{eq-eqb}
 use Rattle.o2_model.specs.declared.check.Check.TheVariants as check
 use Rattle.o2_model.specs.declared.allocator.Allocator.{Allocator}
-use Rattle.o2_model.specs.declared.allocator.BitUse.{BitUse}
 use Rattle.o2_model.specs.declared.allocator.Group.{Group}
 use Rattle.o2_ondisk.specs.GroupDescs.{group_desc_of}
 use Rattle.o2_ondisk.specs.declared.chain_rec.ChainRec.{ChainRec}
@@ -15,7 +14,7 @@ use Rattle.o2_model.specs.Orders.{from_to}
 use Rattle.o2_model.specs.Volume.{Volume, over}
 use Rattle.o2_model.specs.Allocators.{are_inodes, allocators, is_sound_chain_header, chains}
 use Rattle.o2_model.specs.Groups.{group_desc, is_bit_set_in, is_bit_set, block_of_bit, is_of_clusters, is_inode, inodes_of, groups, groups_of}
-use Rattle.o2_model.specs.Metadata.{is_on_bit, group_with_bit, has_origin}
+use Rattle.o2_model.specs.Metadata.{has_origin}
 use Rattle.o2_model.specs.Checks.GroupMissing.{bitmap_places}
 use Rattle.o2_model.specs.Checks.InodeAllocBit.{has_inodes_at_bits}
 use Rattle.o2_model.specs.Checks.InodeSuballoc.{inode_suballoc_faults}
@@ -29,6 +28,7 @@ use Rattle.o2_model.proofs.Agreeing.{all_agree, sum_by_agree, fails_agree, flat_
 use Rattle.o2_model.proofs.Found.{found, contains_filter}
 use Rattle.o2_model.proofs.GroupsOwned.{descriptor_owned}
 use Rattle.o2_model.proofs.OwnedTells.{dinode_same, listed_is_inode}
+use Rattle.o2_model.proofs.MetadataKeeps.{owned_tell_group_with_bit}
 use Rattle.o2_model.proofs.OwnedTables.{allocator_is_inode, owned_tell_system_files, owned_tell_groups, owned_tell_inode, owned_tell_inodes}
 
 -- ---- allocators
@@ -152,10 +152,6 @@ keeps_inode_alloc_bit v at none agrees =
     inodes_at_bits_same v at g none agrees (descriptor_same v at g agrees (contains_filter (λ g. are_inodes g.of.bit_use) (groups v) g is).0))
 
 -- ---- where inodes are from
-pub owned_tell_group_with_bit : (v : Volume) (at : ℕ → List ℕ) (is_use : BitUse → Bool) (b : ℕ) → failing v ≡ [] → AgreesOnOwned v at → group_with_bit (over v at) is_use b ≡ group_with_bit v is_use b
-unfolding group_with_bit
-owned_tell_group_with_bit v at is_use b none agrees = ap (λ w. find (λ g. is_use g.of.bit_use && is_on_bit v b g) w.groups) (owned_tell_groups v at none agrees)
-
 origin_same : (v : Volume) (at : ℕ → List ℕ) (b : ℕ) → failing v ≡ [] → AgreesOnOwned v at → at b ≡ v.at b → inode_suballoc_faults (over v at) b ≡ inode_suballoc_faults v b
 unfolding has_origin
 origin_same v at b none agrees same = rw (owned_tell_group_with_bit v at are_inodes b none agrees, same) refl

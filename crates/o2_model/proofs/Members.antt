@@ -1,11 +1,10 @@
 -- What is a member of a list that is filtered, joined or put in order.
-use Rattle.std.proofs.Common.{◌≡◌, ◌⊎◌, inl, inr, ℕ, zero, suc, true, ◌==◌, nat_lt, List, [], ◌∷◌, refl, sym, subst, arith}
+use Rattle.std.proofs.Common.{◌≡◌, ◌⊎◌, inl, inr, ℕ, zero, suc, true, ◌==◌, List, [], ◌∷◌, refl, sym, subst, arith}
 use Rattle.std.specs.Prelude.{flat_map}
 use Rattle.std.specs.List.{Contains}
-use Rattle.std.proofs.lemmas.Bool.{cases_Bool, eq-eqb, eqb-true}
+use Rattle.std.proofs.lemmas.Bool.{eq-eqb, eqb-true}
 use Rattle.std.proofs.lemmas.List.Elements.{Contains-append_left, Contains-append_right, Contains-append_cases}
 use Rattle.o2_model.specs.Words.{among}
-use Rattle.o2_model.specs.Orders.{with_number, rising}
 use Rattle.o2_model.proofs.Found.{contains_first, contains_later, found, passing}
 
 -- it is the first, or one of the others
@@ -47,28 +46,3 @@ pub among_contains : (ns : List ℕ) (n : ℕ) → among ns n ≡ true → Conta
 among_contains ns n h =
     let at = passing (λ m. n == m) ns h in
     subst (Contains ns) (sym (eqb-true n at.item at.passes)) at.inside
-
--- ---- numbers in order
-contains_with_number : (n : ℕ) (ms : List ℕ) (b : ℕ) → Contains (with_number n ms) b → (n ≡ b) ⊎ Contains ms b
-contains_with_number n [] b is = inl (contains_one n b is)
-contains_with_number n (m ∷ ms) b is = elim (cases_Bool (nat_lt n m)) [
-  | inl low ↦ contains_cases n b (m ∷ ms) (rw low at is)
-  | inr high ↦ elim (cases_Bool (n == m)) [
-    | inl same ↦ inr (rw (high, same) at is)
-    | inr other ↦ elim (contains_cases m b (with_number n ms) (rw (high, other) at is)) [
-      | inl here ↦ inr (subst (λ x. Contains (m ∷ ms) x) here (contains_first m ms))
-      | inr there ↦ elim (contains_with_number n ms b there) [
-        | inl new ↦ inl new
-        | inr old ↦ inr (contains_later m b ms old)
-      ]
-    ]
-  ]
-]
-
--- what the rising numbers have is of the list
-pub contains_rising : (ns : List ℕ) (b : ℕ) → Contains (rising ns) b → Contains ns b
-contains_rising [] b is = is
-contains_rising (n ∷ ns) b is = elim (contains_with_number n (rising ns) b is) [
-  | inl here ↦ subst (λ x. Contains (n ∷ ns) x) here (contains_first n ns)
-  | inr there ↦ contains_later n b ns (contains_rising ns b there)
-]
