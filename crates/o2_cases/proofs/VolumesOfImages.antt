@@ -1,14 +1,14 @@
 -- The image that has the blocks of a small volume, a sector each, is that volume.
-use Rattle.std.proofs.Common.{◌≡◌, inl, inr, ℕ, ◌*◌, ◌/◌, ◌^◌, ◌<◌, ◌≤◌, Bool, true, false, ◌&&◌, ◌==◌, nat_le, nat_lt, List, [], length, drop, replicate, refl, sym, ◌∙◌, ap, arith, Some, None}
-use Rattle.std.proofs.lemmas.Bool.{cases_lt, lt-ltb, le-ltb}
+use Rattle.std.proofs.Common.{◌≡◌, inl, inr, ℕ, ◌*◌, ◌/◌, ◌^◌, ◌<◌, ◌≤◌, true, ◌&&◌, ◌==◌, nat_le, List, [], length, drop, replicate, refl, sym, ◌∙◌, ap, Some, None}
+use Rattle.std.proofs.lemmas.Bool.{cases_lt, le-ltb}
 use Rattle.o2_ondisk.specs.Number.{number_at}
 use Rattle.o2_ondisk.specs.Super.{super_of}
-use Rattle.o2_disk.specs.Image.{Image, sector, bytes_from, block_at}
+use Rattle.o2_disk.specs.Image.{sector, bytes_from, block_at}
 use Rattle.o2_disk.proofs.Images.{length-image_of, sector-image_of, sector_past, bytes_from-sector, bytes_from-same}
 use Rattle.o2_model.specs.Features.{unsupported_in, unsupported_feature}
 use Rattle.o2_model.specs.Geometry.{geometry_of}
 use Rattle.o2_model.specs.Superblock.{super_signature, has_super, superblock_bits}
-use Rattle.o2_model.specs.Volume.{Volume, volume_of, opened}
+use Rattle.o2_model.specs.Volume.{volume_of, opened}
 use Rattle.o2_cases.specs.WholeVolume.{on_device, whole_geo, volume_with}
 use Rattle.o2_cases.specs.WholeImages.{image_with}
 

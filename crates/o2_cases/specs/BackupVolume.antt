@@ -1,5 +1,5 @@
 -- A volume with two backups of the superblock: 5000 clusters of 1 MiB, with blocks of 512 bytes.
-use Rattle.std.specs.Prelude.{ℕ, ◌==◌, List, [], if◌then◌else◌}
+use Rattle.std.specs.Prelude.{ℕ, ◌==◌, [], if◌then◌else◌}
 use Rattle.o2_ondisk.specs.Fields.{put_at}
 use Rattle.o2_model.specs.Volume.{Volume, over}
 use Rattle.o2_cases.specs.SmallVolumes.{large}

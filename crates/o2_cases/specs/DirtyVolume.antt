@@ -1,5 +1,5 @@
 -- The whole volume with a dirty journal, whose log has one transaction in blocks 57 to 59.
-use Rattle.std.specs.Prelude.{ℕ, ◌==◌, List, [], ◌++◌, if◌then◌else◌}
+use Rattle.std.specs.Prelude.{ℕ, ◌==◌, List, if◌then◌else◌}
 use Rattle.o2_model.specs.Volume.{Volume}
 use Rattle.o2_cases.specs.SmallFiles.{one_record, record_of}
 use Rattle.o2_cases.specs.SmallLogs.{commit, one_tag_of}

@@ -1,5 +1,5 @@
 -- The inodes of a whole volume: the volume's own in blocks 17 to 27, the users' in blocks 28 to 33.
-use Rattle.std.specs.Prelude.{ℕ, ◌+◌, ◌-◌, ◌*◌, ◌^◌, List, [], ◌∷◌, ◌++◌, codes}
+use Rattle.std.specs.Prelude.{ℕ, ◌+◌, ◌-◌, ◌*◌, ◌^◌, List, ◌++◌, codes}
 use Rattle.byteorder.specs.Endian.{little_bytes}
 use Rattle.o2_ondisk.specs.Dinodes.{dinode_fields, dinode_numbers}
 use Rattle.o2_ondisk.specs.Fields.{put_all}

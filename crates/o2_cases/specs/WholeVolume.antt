@@ -4,12 +4,11 @@
 --     1 bitmap's group    5 extent blocks     9 directory 28    13 file 29
 --     2 inodes           6 slot map         10 file 29         14 window, free
 --     3 (inodes)          7 journal          11 files 30, 31    15 free
-use Rattle.std.specs.Prelude.{ℕ, ◌+◌, ◌-◌, ◌==◌, List, [], ◌∷◌, ◌++◌, codes, length, nat_lt, replicate, if◌then◌else◌}
+use Rattle.std.specs.Prelude.{ℕ, ◌-◌, ◌==◌, List, [], ◌∷◌, ◌++◌, codes, length, nat_lt, replicate, if◌then◌else◌}
 use Rattle.byteorder.specs.Endian.{little_bytes, big_bytes}
 use Rattle.o2_ondisk.specs.Fields.{put_at, put_all}
 use Rattle.o2_ondisk.specs.Signatures.{superblock_signature, group_signature, extent_block_signature, dx_root_signature, refcount_block_signature, dir_trailer_signature}
 use Rattle.o2_ondisk.specs.GroupDescs.{group_desc_fields, group_desc_numbers}
-use Rattle.o2_ondisk.specs.declared.group_desc.GroupDesc.{GroupDesc}
 use Rattle.o2_model.specs.declared.geo.Geo.{Geo}
 use Rattle.o2_model.specs.Volume.{Volume}
 use Rattle.o2_cases.specs.SmallBytes.{zero_bytes}
