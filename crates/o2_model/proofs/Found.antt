@@ -1,8 +1,9 @@
 -- Where a list is mapped, joined or filtered, a test finds what it found before.
-use Rattle.std.proofs.Common.{◌≡◌, inl, inr, ℕ, zero, suc, ◌+◌, ◌-◌, ◌<◌, ◌≤◌, Bool, true, ◌&&◌, ◌||◌, List, [], ◌∷◌, ◌++◌, map, refl, ◌∙◌, ap, arith, Some}
+use Rattle.std.proofs.Common.{◌≡◌, inl, inr, ◌⊎◌, ⊎_elim, ℕ, zero, suc, ◌+◌, ◌-◌, ◌<◌, ◌≤◌, Bool, true, ◌&&◌, ◌||◌, List, [], ◌∷◌, ◌++◌, map, refl, ◌∙◌, ap, arith, Some}
 use Rattle.std.specs.Prelude.{flat_map, filter, find}
 use Rattle.std.specs.List.{list_any, AllByRecursion, Contains, range_with_len}
 use Rattle.std.proofs.lemmas.Bool.{cases_Bool, false≢true}
+use Rattle.std.proofs.lemmas.List.Elements.{Contains-append_cases}
 use Rattle.std.proofs.lemmas.List.Folds.{list_any-append, list_any_at}
 use Rattle.std.proofs.lemmas.List.FromFn.{length-range_with_len, get_or-range_with_len}
 
@@ -76,6 +77,38 @@ pub each_of : {A : Type 0} (P : A → Type 0) (xs : List A) (x : A) → AllByRec
 each_of P [] x all is = absurd (omega (arith, is.1))
 each_of P (y ∷ ys) x all (zero, within, is) = rw (← is) all.0
 each_of P (y ∷ ys) x all (suc k, within, is) = each_of P ys x all.1 (k, omega (arith, within), is)
+
+-- ---- members
+-- the first or one of the rest
+pub contains_cases : {A : Type 0} (y x : A) (ys : List A) → Contains (y ∷ ys) x → (y ≡ x) ⊎ Contains ys x
+contains_cases y x ys (zero, within, is) = inl is
+contains_cases y x ys (suc k, within, is) = inr (k, omega (arith, within), is)
+
+-- what a filter keeps was there, and passes
+pub contains_filter : {A : Type 0} (p : A → Bool) (xs : List A) (x : A) → Contains (filter p xs) x → Contains xs x × (p x ≡ true)
+contains_filter p [] x is = absurd (omega (arith, is.1))
+contains_filter p (y ∷ ys) x is = elim (cases_Bool (p y)) [
+  | inr bad ↦
+      let later = contains_filter p ys x (rw bad at is) in
+      (contains_later y x ys later.0, later.1)
+  | inl good ↦ ⊎_elim
+      (λ here. rw (← here) (contains_first y ys, good))
+      (λ there. let later = contains_filter p ys x there in (contains_later y x ys later.0, later.1))
+      (contains_cases y x (filter p ys) (rw good at is))
+]
+
+-- what a joined list has stands in a part of it
+pub record InPart {A B : Type 0} (f : A → List B) (xs : List A) (y : B) : Type 0 where
+  pub item : A
+  pub inside : Contains xs item
+  pub part : Contains (f item) y
+
+pub contains_flat : {A B : Type 0} (f : A → List B) (xs : List A) (y : B) → Contains (flat_map f xs) y → InPart f xs y
+contains_flat f [] y is = absurd (omega (arith, is.1))
+contains_flat f (x ∷ xs) y is = ⊎_elim
+    (λ here. record { item = x; inside = contains_first x xs; part = here })
+    (λ there. let later = contains_flat f xs y there in record { item = later.item; inside = contains_later x later.item xs later.inside; part = later.part })
+    (Contains-append_cases (f x) (flat_map f xs) y is)
 
 -- a list joined of two that is empty
 pub append_nothing : {A : Type 0} (xs ys : List A) → xs ++ ys ≡ [] → (xs ≡ []) × (ys ≡ [])

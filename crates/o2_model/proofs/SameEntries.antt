@@ -8,7 +8,7 @@ use Rattle.o2_model.specs.Words.{among}
 use Rattle.o2_model.specs.Volume.{Volume, over}
 use Rattle.o2_ondisk.specs.declared.extent_rec.ExtentRec.{ExtentRec}
 use Rattle.o2_model.specs.Inodes.{extents, leaf_records, is_inline}
-use Rattle.o2_model.specs.Directories.{DirBlock, dir_block, mapped, is_written, dir_blocks, directory_entries}
+use Rattle.o2_model.specs.Directories.{DirBlock, dir_block, mapped, is_written, dir_blocks, entries_of_block, directory_entries}
 use Rattle.o2_model.specs.Frames.{SameOn}
 
 abbrev places : List DirBlock → List ℕ
@@ -29,9 +29,14 @@ records_same v at limit (r ∷ rs) same =
     let rest = records_same v at limit rs (record { same = λ b h. same.same b (parts b ∙ or_right _ _ h) }) in
     ap (λ bs. bs ++ flat_map (mapped (over v at) limit) rs) here ∙ ap (λ bs. mapped v limit r ++ bs) rest
 
-pub entries_same : (v : Volume) (at : ℕ → List ℕ) (d : ℕ) → at d ≡ v.at d → extents (over v at) d ≡ extents v d → SameOn (places (dir_blocks v d)) v at → directory_entries (over v at) d ≡ directory_entries v d
-unfolding directory_entries dir_blocks
-entries_same v at d inode list same = elim (cases_Bool (is_inline v d)) [
+-- the blocks of a directory, each with its entries
+pub dir_blocks_same : (v : Volume) (at : ℕ → List ℕ) (d : ℕ) → at d ≡ v.at d → extents (over v at) d ≡ extents v d → SameOn (places (dir_blocks v d)) v at → dir_blocks (over v at) d ≡ dir_blocks v d
+unfolding dir_blocks
+dir_blocks_same v at d inode list same = elim (cases_Bool (is_inline v d)) [
   | inl inline ↦ rw (inode, inline) refl
   | inr outside ↦ rw (inode, leaf_records, list, outside, records_same v at _ (filter is_written (leaf_records v d)) (rw outside at same)) refl
 ]
+
+pub entries_same : (v : Volume) (at : ℕ → List ℕ) (d : ℕ) → at d ≡ v.at d → extents (over v at) d ≡ extents v d → SameOn (places (dir_blocks v d)) v at → directory_entries (over v at) d ≡ directory_entries v d
+unfolding directory_entries
+entries_same v at d inode list same = ap (flat_map entries_of_block) (dir_blocks_same v at d inode list same)
