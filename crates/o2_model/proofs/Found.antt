@@ -1,11 +1,12 @@
 -- Where a list is mapped, joined or filtered, a test finds what it found before.
-use Rattle.std.proofs.Common.{◌≡◌, inl, inr, ◌⊎◌, ⊎_elim, ℕ, zero, suc, ◌+◌, ◌-◌, ◌<◌, ◌≤◌, Bool, true, ◌&&◌, ◌||◌, List, [], ◌∷◌, ◌++◌, map, refl, ◌∙◌, ap, arith, Some}
+use Rattle.std.proofs.Common.{◌≡◌, inl, inr, ◌⊎◌, ⊎_elim, ℕ, zero, suc, ◌+◌, ◌-◌, ◌<◌, ◌≤◌, Bool, true, false, ◌&&◌, ◌||◌, ◌==◌, List, [], ◌∷◌, ◌++◌, map, refl, sym, ◌∙◌, ap, subst, arith, Some}
 use Rattle.std.specs.Prelude.{flat_map, filter, find}
-use Rattle.std.specs.List.{list_any, AllByRecursion, Contains, range_with_len}
-use Rattle.std.proofs.lemmas.Bool.{cases_Bool, false≢true}
+use Rattle.std.specs.List.{list_any, list_all, AllByRecursion, Contains, range_with_len}
+use Rattle.std.proofs.lemmas.Bool.{cases_Bool, eq-eqb, eqb-true, false≢true}
 use Rattle.std.proofs.lemmas.List.Elements.{Contains-append_cases}
-use Rattle.std.proofs.lemmas.List.Folds.{list_any-append, list_any_at}
+use Rattle.std.proofs.lemmas.List.Folds.{list_any-append, list_any_at, list_all_at}
 use Rattle.std.proofs.lemmas.List.FromFn.{length-range_with_len, get_or-range_with_len}
+use Rattle.o2_model.specs.Words.{among}
 
 pub found : {A : Type 0} (p : A → Bool) (xs : List A) (x : A) → Contains xs x → p x ≡ true → list_any p xs ≡ true
 found p xs x is h = list_any_at p xs is.0 x is.1 (ap p is.2 ∙ h)
@@ -109,6 +110,22 @@ contains_flat f (x ∷ xs) y is = ⊎_elim
     (λ here. record { item = x; inside = contains_first x xs; part = here })
     (λ there. let later = contains_flat f xs y there in record { item = later.item; inside = contains_later x later.item xs later.inside; part = later.part })
     (Contains-append_cases (f x) (flat_map f xs) y is)
+
+-- where all pass, each does
+pub passes_of_all : {A : Type 0} (p : A → Bool) (xs : List A) (x : A) → list_all p xs ≡ true → Contains xs x → p x ≡ true
+passes_of_all p xs x all is = elim (cases_Bool (p x)) [
+  | inl good ↦ good
+  | inr bad ↦ absurd (false≢true (sym (list_all_at p xs is.0 x is.1 (ap p is.2 ∙ bad)) ∙ all))
+]
+
+-- a number that is found in a list stands in it
+pub among_contains : (ns : List ℕ) (n : ℕ) → among ns n ≡ true → Contains ns n
+among_contains ns n h =
+    let at = passing (λ m. n == m) ns h in
+    subst (Contains ns) (sym (eqb-true n at.item at.passes)) at.inside
+
+pub contains_among : (ns : List ℕ) (n : ℕ) → Contains ns n → among ns n ≡ true
+contains_among ns n is = found (λ m. n == m) ns n is (eq-eqb n n refl)
 
 -- a list joined of two that is empty
 pub append_nothing : {A : Type 0} (xs ys : List A) → xs ++ ys ≡ [] → (xs ≡ []) × (ys ≡ [])

@@ -33,3 +33,6 @@ pub mod OwnedTables
 pub mod OwnedTree
 pub mod OwnedFiles
 pub mod OwnedImages
+pub mod IndexesHold
+pub mod IndexClaims
+pub mod IndexesKeep

@@ -1,12 +1,12 @@
 -- Where nothing fails, blocks that agree on the owned ones have the same extents, entries and contents of inodes.
 use Rattle.std.proofs.Common.{◌≡◌, ⊎_elim, ℕ, true, false, ◌==◌, List, [], ◌∷◌, refl, sym, ◌∙◌, ap, subst}
 use Rattle.std.specs.Prelude.{flat_map}
-use Rattle.std.specs.List.{AllByRecursion, Contains}
+use Rattle.std.specs.List.{AllByRecursion, Contains, range_with_len}
 use Rattle.std.proofs.lemmas.Bool.{or_left, or_cases, eq-eqb, eqb-true}
 use Rattle.std.proofs.lemmas.List.Folds.{list_any-append}
 use Rattle.o2_model.specs.declared.check.Check.TheVariants as check
 use Rattle.o2_model.specs.Words.{among}
-use Rattle.o2_model.specs.Volume.{Volume, over}
+use Rattle.o2_model.specs.Volume.{Volume, over, blocks}
 use Rattle.o2_model.specs.Inodes.{extents, extent_blocks_of}
 use Rattle.o2_model.specs.Directories.{directory_entries}
 use Rattle.o2_model.specs.Contents.{content_of}
@@ -23,7 +23,7 @@ use Rattle.o2_model.proofs.NothingFails.{no_check_fails}
 use Rattle.o2_model.proofs.Readings.{extents_same, faults_of_own_list}
 use Rattle.o2_model.proofs.SameEntries.{entries_same}
 use Rattle.o2_model.proofs.SameContents.{content_same, file_same}
-use Rattle.o2_model.proofs.Found.{append_nothing, any_flat, passing, each_of}
+use Rattle.o2_model.proofs.Found.{append_nothing, any_flat, each_of, among_contains, contains_filter}
 use Rattle.o2_model.proofs.WellRead.{extents_well, extent_blocks_are}
 use Rattle.o2_model.proofs.BitsOwned.{dinode_owned, metadata_owned}
 use Rattle.o2_model.proofs.DataOwned.{among_inodes, content_owned, directory_owned}
@@ -35,11 +35,13 @@ each_nothing f (x ∷ xs) h =
     let parts = append_nothing (f x) (flat_map f xs) h in
     (parts.0, each_nothing f xs parts.1)
 
--- what holds of each inode of the list
-inode_listed : (v : Volume) (i : ℕ) → is_inode v i ≡ true → Contains (inodes_of v) i
-inode_listed v i is =
-    let at = passing (λ b. i == b) (inodes_of v) (among_inodes v i (λ b. i == b) is (eq-eqb i i refl)) in
-    subst (Contains (inodes_of v)) (sym (eqb-true i at.item at.passes)) at.inside
+-- the inodes and the list of them
+pub inode_listed : (v : Volume) (i : ℕ) → is_inode v i ≡ true → Contains (inodes_of v) i
+inode_listed v i is = among_contains (inodes_of v) i (among_inodes v i (λ b. i == b) is (eq-eqb i i refl))
+
+pub listed_inode : (v : Volume) (i : ℕ) → Contains (inodes_of v) i → is_inode v i ≡ true
+unfolding inodes_of
+listed_inode v i is = (contains_filter (is_inode v) (range_with_len 0 (blocks v)) i is).1
 
 extents_hold : (v : Volume) → failing v ≡ [] → flat_map (extent_faults v) (inodes_of v) ≡ []
 unfolding faults
