@@ -49,7 +49,7 @@ owned_tell_indexed v at none agrees =
 abbrev read_index : Volume → ℕ → ℕ → Extents
 read_index v d root = cond (is_index_root v d root && not (is_inline_index v root)) (read_list v 3 root 0xc0 ((block_size v - 208) / 16)) nothing_read
 
-root_same : (v : Volume) (at : ℕ → List ℕ) (d b : ℕ) → at b ≡ v.at b → is_index_root (over v at) d b ≡ is_index_root v d b
+pub root_same : (v : Volume) (at : ℕ → List ℕ) (d b : ℕ) → at b ≡ v.at b → is_index_root (over v at) d b ≡ is_index_root v d b
 unfolding is_index_root
 root_same v at d b same = rw same refl
 
@@ -73,17 +73,17 @@ unfolding index_extents
 list_read v at d inode root same none = ap (read_index (over v at) d) (root_number v at d inode) ∙ read_same v at d (index_root v d) root same none
 
 -- ---- what an index stands on
-record SameIndex (v : Volume) (at : ℕ → List ℕ) (d : ℕ) : Type 0 where
-  inode : at d ≡ v.at d
-  root : at (index_root v d) ≡ v.at (index_root v d)
-  list : index_extents (over v at) d ≡ index_extents v d
-  blocks : SameOn (index_extents v d).blocks v at
-  leaves : SameOn (index_leaves v d) v at
-  entries : directory_entries (over v at) d ≡ directory_entries v d
-  parts : dir_blocks (over v at) d ≡ dir_blocks v d
-  bytes : SameOn (map (λ x. x.block) (dir_blocks v d)) v at
+pub record SameIndex (v : Volume) (at : ℕ → List ℕ) (d : ℕ) : Type 0 where
+  pub inode : at d ≡ v.at d
+  pub root : at (index_root v d) ≡ v.at (index_root v d)
+  pub list : index_extents (over v at) d ≡ index_extents v d
+  pub blocks : SameOn (index_extents v d).blocks v at
+  pub leaves : SameOn (index_leaves v d) v at
+  pub entries : directory_entries (over v at) d ≡ directory_entries v d
+  pub parts : dir_blocks (over v at) d ≡ dir_blocks v d
+  pub bytes : SameOn (map (λ x. x.block) (dir_blocks v d)) v at
 
-same_index : (v : Volume) (at : ℕ → List ℕ) (d : ℕ) → failing v ≡ [] → AgreesOnOwned v at → Contains (indexed_directories v) d → SameIndex v at d
+pub same_index : (v : Volume) (at : ℕ → List ℕ) (d : ℕ) → failing v ≡ [] → AgreesOnOwned v at → Contains (indexed_directories v) d → SameIndex v at d
 same_index v at d none agrees is =
     let indexed = indexed_is v d is in
     let apart = directory_apart v d none indexed.directory in
@@ -119,20 +119,20 @@ owned_tell_all_index_blocks v at none agrees =
     ap (flat_map (index_blocks (over v at))) (owned_tell_indexed v at none agrees)
     ∙ flat_map_agree (index_blocks (over v at)) (index_blocks v) (indexed_directories v) (λ d is. owned_tell_index_blocks v at d none agrees is)
 
-clusters_same : (v : Volume) (at : ℕ → List ℕ) (d : ℕ) → SameIndex v at d → index_clusters (over v at) d ≡ index_clusters v d
+pub index_clusters_same : (v : Volume) (at : ℕ → List ℕ) (d : ℕ) → SameIndex v at d → index_clusters (over v at) d ≡ index_clusters v d
 unfolding index_clusters
-clusters_same v at d same = rw same.list refl
+index_clusters_same v at d same = rw same.list refl
 
 pub owned_tell_index_clusters : (v : Volume) (at : ℕ → List ℕ) (d : ℕ) → failing v ≡ [] → AgreesOnOwned v at → Contains (indexed_directories v) d → index_clusters (over v at) d ≡ index_clusters v d
-owned_tell_index_clusters v at d none agrees is = clusters_same v at d (same_index v at d none agrees is)
+owned_tell_index_clusters v at d none agrees is = index_clusters_same v at d (same_index v at d none agrees is)
 
 -- ---- its entries
-entries_same : (v : Volume) (at : ℕ → List ℕ) (d : ℕ) → SameIndex v at d → index_entries (over v at) d ≡ index_entries v d
+pub index_entries_same : (v : Volume) (at : ℕ → List ℕ) (d : ℕ) → SameIndex v at d → index_entries (over v at) d ≡ index_entries v d
 unfolding index_entries
-entries_same v at d same =
+index_entries_same v at d same =
     let each = flat_map_agree (dx_entries_at (over v at) 0x28) (dx_entries_at v 0x28) (index_leaves v d) (λ b is. rw (same.leaves.same b (contains_among (index_leaves v d) b is)) refl) in
     rw (same.inode, same.root, same.list, each) refl
 
-leaf_same : (v : Volume) (at : ℕ → List ℕ) (b : ℕ) → at b ≡ v.at b → is_sound_index_leaf (over v at) b ≡ is_sound_index_leaf v b
+pub leaf_same : (v : Volume) (at : ℕ → List ℕ) (b : ℕ) → at b ≡ v.at b → is_sound_index_leaf (over v at) b ≡ is_sound_index_leaf v b
 unfolding is_sound_index_leaf
 leaf_same v at b same = rw same refl

@@ -36,3 +36,4 @@ pub mod OwnedImages
 pub mod IndexesHold
 pub mod IndexClaims
 pub mod IndexesKeep
+pub mod SoundIndexesKeep
