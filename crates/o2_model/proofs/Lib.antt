@@ -37,3 +37,4 @@ pub mod IndexesHold
 pub mod IndexClaims
 pub mod IndexesKeep
 pub mod SoundIndexesKeep
+pub mod ClaimsKeep
