@@ -38,3 +38,4 @@ pub mod IndexClaims
 pub mod IndexesKeep
 pub mod SoundIndexesKeep
 pub mod ClaimsKeep
+pub mod OwnedKeep
