@@ -39,3 +39,7 @@ pub mod IndexesKeep
 pub mod SoundIndexesKeep
 pub mod ClaimsKeep
 pub mod OwnedKeep
+pub mod DxKeeps
+pub mod SlotPartsKeep
+pub mod AllocBitsKeep
+pub mod DupClustersKeeps
