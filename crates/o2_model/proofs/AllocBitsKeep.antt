@@ -1,8 +1,8 @@
--- Where nothing fails, BLOCK_ALLOC_BIT and CLUSTER_ALLOC_BIT fail at the same groups over blocks that agree on the owned ones.
-use Rattle.std.proofs.Common.{◌≡◌, ℕ, ◌+◌, Bool, ◌&&◌, List, [], ◌++◌, refl, ◌∙◌, ap}
+-- Where nothing fails, blocks that agree on the owned ones have the same answers of BLOCK_ALLOC_BIT and CLUSTER_ALLOC_BIT.
+use Rattle.std.proofs.Common.{◌≡◌, ℕ, Bool, ◌&&◌, List, [], ◌++◌, ◌∙◌, ap}
 use Rattle.std.specs.Prelude.{filter, flat_map}
 use Rattle.std.specs.Bool.{beq}
-use Rattle.std.specs.List.{Contains, list_all, range_with_len}
+use Rattle.std.specs.List.{list_all, range_with_len}
 use Rattle.o2_model.specs.declared.check.Check.TheVariants as check
 use Rattle.o2_model.specs.declared.allocator.Group.{Group}
 use Rattle.o2_model.specs.declared.claim.Claim.{Claim}
@@ -44,7 +44,8 @@ owned_tell_blocks_in_use v at none agrees metadata =
     (ap (flat_map (index_blocks (over v at))) (owned_tell_sound_indexes v at none agrees metadata)
     ∙ flat_map_agree (index_blocks (over v at)) (index_blocks v) indexes (λ d is. owned_tell_index_blocks v at d none agrees (contains_filter (holds_index v) (indexed_directories v) d is).0))
 
-block_bits_same : (v : Volume) (at : ℕ → List ℕ) → failing v ≡ [] → AgreesOnOwned v at → SameMetadata v at → (g : Group) → at g.block ≡ v.at g.block → has_bits_of_blocks (over v at) g ≡ has_bits_of_blocks v g
+block_bits_same : (v : Volume) (at : ℕ → List ℕ) → failing v ≡ [] → AgreesOnOwned v at → SameMetadata v at → (g : Group) → at g.block ≡ v.at g.block
+    → has_bits_of_blocks (over v at) g ≡ has_bits_of_blocks v g
 unfolding has_bits_of_blocks
 block_bits_same v at none agrees metadata g same =
     let holds = λ (bytes used : List ℕ). is_bit_set_in 0x40 bytes 0 && list_all (λ k. beq (is_bit_set_in 0x40 bytes k) (among used (block_of_bit v g k))) (from_to 1 g.bits) in
@@ -56,7 +57,8 @@ keeps_block_alloc_bit v at none agrees metadata =
     groups_same v at (λ g. are_metadata g.of.bit_use) (has_bits_of_blocks (over v at)) (has_bits_of_blocks v) none agrees (block_bits_same v at none agrees metadata)
 
 -- ---- clusters
-cluster_bits_same : (v : Volume) (at : ℕ → List ℕ) → failing v ≡ [] → AgreesOnOwned v at → SameMetadata v at → (g : Group) → at g.block ≡ v.at g.block → has_bits_of_claims (over v at) g ≡ has_bits_of_claims v g
+cluster_bits_same : (v : Volume) (at : ℕ → List ℕ) → failing v ≡ [] → AgreesOnOwned v at → SameMetadata v at → (g : Group) → at g.block ≡ v.at g.block
+    → has_bits_of_claims (over v at) g ≡ has_bits_of_claims v g
 unfolding has_bits_of_claims
 cluster_bits_same v at none agrees metadata g same =
     let holds = λ (bytes : List ℕ) (claims : List Claim). list_all (λ k. beq (is_bit_set_in 0x40 bytes k) (is_claimed claims (cluster_of_bit v g k))) (range_with_len 0 g.bits) in

@@ -9,7 +9,6 @@ use Rattle.o2_model.specs.declared.claim.Owner.TheVariants.{Inode}
 use Rattle.o2_model.specs.declared.system_file.SlotFile.TheVariants.{LocalAlloc, TruncateLog}
 use Rattle.o2_model.specs.declared.system_file.SystemFile.TheVariants.{OfSlot}
 use Rattle.o2_model.specs.Volume.{Volume, over}
-use Rattle.o2_model.specs.Frames.{SameSystemFiles}
 use Rattle.o2_model.specs.Inodes.{records_of}
 use Rattle.o2_model.specs.LeafRecords.{clusters_under}
 use Rattle.o2_model.specs.SystemFiles.{system_inode}
@@ -32,8 +31,9 @@ use Rattle.o2_model.proofs.SoundIndexesKeep.{owned_tell_sound_index}
 -- ---- of structures and inodes
 pub owned_tell_structure_claims : (v : Volume) (at : ℕ → List ℕ) → failing v ≡ [] → AgreesOnOwned v at → structure_claims (over v at) ≡ structure_claims v
 owned_tell_structure_claims v at none agrees =
+    let fixed = (super_claims v ++ global_claims v) ++ backup_claims v in
     structures-are (over v at)
-    ∙ (ap (λ (w : GroupWalk). ((super_claims v ++ global_claims v) ++ backup_claims v) ++ flat_map (clusters_claimed_by v) (filter (λ g. not (is_of_clusters g)) w.groups)) (owned_tell_groups v at none agrees)
+    ∙ (ap (λ (w : GroupWalk). fixed ++ flat_map (clusters_claimed_by v) (filter (λ g. not (is_of_clusters g)) w.groups)) (owned_tell_groups v at none agrees)
     ∙ sym (structures-are v))
 
 pub owned_tell_records : (v : Volume) (at : ℕ → List ℕ) (b : ℕ) → failing v ≡ [] → AgreesOnOwned v at → is_inode v b ≡ true → records_of (over v at) b ≡ records_of v b
@@ -47,7 +47,8 @@ owned_tell_inode_claims v at none agrees =
     (λ b is. ap (λ rs. claims_by (Inode b) (flat_map (clusters_under v) rs)) (owned_tell_records v at b none agrees (listed_inode v b is)))
 
 -- ---- of indexes
-with_index_same : (v : Volume) (at : ℕ → List ℕ) → failing v ≡ [] → AgreesOnOwned v at → SameMetadata v at → (ks : List Claim) (d : ℕ) → Contains (indexed_directories v) d → with_index (over v at) ks d ≡ with_index v ks d
+with_index_same : (v : Volume) (at : ℕ → List ℕ) → failing v ≡ [] → AgreesOnOwned v at → SameMetadata v at → (ks : List Claim) (d : ℕ) → Contains (indexed_directories v) d
+    → with_index (over v at) ks d ≡ with_index v ks d
 with_index_same v at none agrees metadata ks d is =
     rw (owned_tell_sound_index v at _ d none agrees metadata is, owned_tell_index_clusters v at d none agrees is) refl
 
@@ -78,7 +79,8 @@ with_window_same : (v : Volume) (at : ℕ → List ℕ) (ks : List Claim) (slot 
 with_window_same v at ks slot None same = refl
 with_window_same v at ks slot (Some b) same = rw (sound_window_same v at _ b (same b refl), window_same v at b (same b refl)) refl
 
-pub owned_tell_claims_with_windows : (v : Volume) (at : ℕ → List ℕ) (count : ℕ) → failing v ≡ [] → AgreesOnOwned v at → SameMetadata v at → claims_with_windows (over v at) count ≡ claims_with_windows v count
+pub owned_tell_claims_with_windows : (v : Volume) (at : ℕ → List ℕ) (count : ℕ) → failing v ≡ [] → AgreesOnOwned v at → SameMetadata v at
+    → claims_with_windows (over v at) count ≡ claims_with_windows v count
 unfolding claims_with_windows
 owned_tell_claims_with_windows v at count none agrees metadata =
     let files = owned_tell_system_files v at none agrees in
@@ -110,7 +112,8 @@ with_log_same v at ks slot (Some b) same =
     ap (fold (with_truncation (over v at) slot) ks) (truncate_records_same v at b (same b refl))
     ∙ fold_agree (with_truncation (over v at) slot) (with_truncation v slot) ks (truncate_records v b) (λ es r is. with_truncation_same v at slot es r)
 
-pub owned_tell_claims_with_truncations : (v : Volume) (at : ℕ → List ℕ) (count : ℕ) → failing v ≡ [] → AgreesOnOwned v at → SameMetadata v at → claims_with_truncations (over v at) count ≡ claims_with_truncations v count
+pub owned_tell_claims_with_truncations : (v : Volume) (at : ℕ → List ℕ) (count : ℕ) → failing v ≡ [] → AgreesOnOwned v at → SameMetadata v at
+    → claims_with_truncations (over v at) count ≡ claims_with_truncations v count
 unfolding claims_with_truncations
 owned_tell_claims_with_truncations v at count none agrees metadata =
     let files = owned_tell_system_files v at none agrees in

@@ -12,7 +12,7 @@ use Rattle.o2_model.specs.Words.{among}
 use Rattle.o2_model.specs.Volume.{Volume, blocks, per_cluster, is_valid}
 use Rattle.o2_model.specs.Clusters.{cluster_of}
 use Rattle.o2_model.specs.Extents.{leaf_clusters}
-use Rattle.o2_model.specs.Inodes.{leaf_records, records_of, is_inline}
+use Rattle.o2_model.specs.Inodes.{leaf_records, is_inline}
 use Rattle.o2_model.specs.LeafRecords.{clusters_under, blocks_under}
 use Rattle.o2_model.specs.Directories.{dir_block, mapped, is_written, dir_blocks}
 use Rattle.o2_model.specs.Journals.{journals}

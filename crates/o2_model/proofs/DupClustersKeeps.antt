@@ -1,4 +1,4 @@
--- Where nothing fails, DUP_CLUSTERS fails at the same inodes over blocks that agree on the owned ones.
+-- Where nothing fails, blocks that agree on the owned ones have the same answer of DUP_CLUSTERS.
 use Rattle.std.proofs.Common.{◌≡◌, ⊎_elim, ℕ, Bool, true, ◌&&◌, ◌||◌, not, ◌==◌, List, [], ◌∷◌, map, length, refl, sym, ◌∙◌, ap, subst, arith}
 use Rattle.std.specs.Prelude.{filter, flat_map}
 use Rattle.std.specs.List.{Contains, list_all}
@@ -9,7 +9,6 @@ use Rattle.o2_model.specs.Inodes.{records_of}
 use Rattle.o2_model.specs.LeafRecords.{clusters_under, is_refcounted}
 use Rattle.o2_model.specs.Groups.{is_inode, inodes_of}
 use Rattle.o2_model.specs.Claims.{structure_claims, is_claimed}
-use Rattle.o2_model.specs.RefcountTrees.{has_refcount}
 use Rattle.o2_model.specs.Checks.DupClusters.{ClusterUse, uses_under, uses_by, uses_of, share_tree, may_share, is_sole_or_shared}
 use Rattle.o2_model.specs.Failing.{faults, failing}
 use Rattle.o2_model.specs.Agrees.{AgreesOnOwned}
@@ -69,7 +68,8 @@ sole_same v at u none agrees inode =
     ∙ ap (λ x. not (is_claimed (structure_claims v) u.cluster) && (length (uses_of v u.cluster) == 1 || x))
     (all_agree (may_share (over v at) u) (may_share v u) (uses_of v u.cluster) (λ w is. share_same v at u w agrees inode (among_uses v u.cluster w is))))
 
-uses_hold : (v : Volume) (at : ℕ → List ℕ) (b : ℕ) → failing v ≡ [] → AgreesOnOwned v at → is_inode v b ≡ true → list_all (is_sole_or_shared (over v at)) (uses_by (over v at) b) ≡ list_all (is_sole_or_shared v) (uses_by v b)
+uses_hold : (v : Volume) (at : ℕ → List ℕ) (b : ℕ) → failing v ≡ [] → AgreesOnOwned v at → is_inode v b ≡ true
+    → list_all (is_sole_or_shared (over v at)) (uses_by (over v at) b) ≡ list_all (is_sole_or_shared v) (uses_by v b)
 uses_hold v at b none agrees is =
     ap (list_all (is_sole_or_shared (over v at))) (owned_tell_uses_by v at b none agrees is)
     ∙ all_agree (is_sole_or_shared (over v at)) (is_sole_or_shared v) (uses_by v b) (λ u inside. sole_same v at u none agrees (use_inode v b u is inside))

@@ -1,4 +1,4 @@
--- Where nothing fails, DX fails at the same directories over blocks that agree on the owned ones.
+-- Where nothing fails, blocks that agree on the owned ones have the same answer of DX.
 use Rattle.std.proofs.Common.{◌≡◌, ℕ, List, [], ◌∙◌, ap}
 use Rattle.std.specs.Prelude.{filter}
 use Rattle.std.specs.List.{Contains}

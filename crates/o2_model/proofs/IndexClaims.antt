@@ -1,5 +1,5 @@
 -- Where nothing fails, each index claims its clusters, and its leaves are owned.
-use Rattle.std.proofs.Common.{◌≡◌, inl, inr, ⊎_elim, ℕ, zero, suc, ◌+◌, ◌<◌, ◌≤◌, Bool, true, false, ◌==◌, List, [], ◌∷◌, ◌++◌, refl, sym, ◌∙◌, subst, arith}
+use Rattle.std.proofs.Common.{◌≡◌, inl, inr, ⊎_elim, ℕ, zero, suc, ◌+◌, ◌<◌, ◌≤◌, Bool, true, List, [], ◌∷◌, ◌++◌, refl, sym, ◌∙◌, subst, arith}
 use Rattle.std.specs.Prelude.{filter, fold, nat_lt}
 use Rattle.std.specs.List.{list_any, Contains, range_with_len}
 use Rattle.std.proofs.lemmas.Bool.{cases_Bool, or_left, or_right, lt-ltb, le-ltb}
@@ -10,7 +10,7 @@ use Rattle.o2_model.specs.Words.{among}
 use Rattle.o2_model.specs.Volume.{Volume, blocks}
 use Rattle.o2_model.specs.Groups.{inodes_of}
 use Rattle.o2_model.specs.Indexes.{is_indexed, indexed_directories, index_extents, index_clusters, index_leaves, is_sound_index}
-use Rattle.o2_model.specs.Claims.{claims_by, claimed_clusters, structure_claims, inode_claims, with_index, claims_before_index, claims_with_indexes, claims_of}
+use Rattle.o2_model.specs.Claims.{claims_by, claimed_clusters, structure_claims, inode_claims, with_index, claims_before_index, claims_with_indexes}
 use Rattle.o2_model.specs.Failing.{failing}
 use Rattle.o2_model.specs.Owned.{is_owned}
 use Rattle.o2_model.proofs.Found.{contains_cases}
@@ -63,23 +63,25 @@ Adds v d P = (earlier : List Claim) → P (earlier ++ claims_by (Index d) (index
 abbrev before : Volume → List Claim → List ℕ → ℕ → List Claim
 before v ks ds d = fold (with_index v) ks (filter (λ e. nat_lt e d) ds)
 
-index_here : (P : List Claim → Type 0) → Lasts P → (v : Volume) (d : ℕ) → Adds v d P → (ks : List Claim) (ds : List ℕ) → RiseFrom (d + 1) ds → is_sound_index v (claimed_clusters (before v ks (d ∷ ds) d)) d ≡ true
+index_here : (P : List Claim → Type 0) → Lasts P → (v : Volume) (d : ℕ) → Adds v d P → (ks : List Claim) (ds : List ℕ) → RiseFrom (d + 1) ds
+    → is_sound_index v (claimed_clusters (before v ks (d ∷ ds) d)) d ≡ true
     → P (fold (with_index v) ks (d ∷ ds))
 index_here P lasts v d adds ks ds r h =
     let sound : is_sound_index v (claimed_clusters ks) d ≡ true = rw (le-ltb d d (omega arith), none_before d (d + 1) ds (omega arith) r) at h in
     lasts_fold P (with_index v) (λ es e k. lasts_if P lasts _ es _ k) (with_index v ks d) ds (rw sound (adds ks))
 
-index_among : (P : List Claim → Type 0) → Lasts P → (v : Volume) (d low : ℕ) → Adds v d P → (ks : List Claim) (ds : List ℕ) → RiseFrom low ds → Contains ds d → is_sound_index v (claimed_clusters (before v ks ds d)) d ≡ true
+index_among : (P : List Claim → Type 0) → Lasts P → (v : Volume) (d low : ℕ) → Adds v d P → (ks : List Claim) (ds : List ℕ) → RiseFrom low ds → Contains ds d
+    → is_sound_index v (claimed_clusters (before v ks ds d)) d ≡ true
     → P (fold (with_index v) ks ds)
 index_among P lasts v d low adds ks [] r is h = absurd (omega (arith, is.1))
 index_among P lasts v d low adds ks (n ∷ ds) r is h = ⊎_elim
     (λ here.
-        let r' : RiseFrom (d + 1) ds = subst (λ x. RiseFrom (x + 1) ds) here r.1 in
-        let h' : is_sound_index v (claimed_clusters (before v ks (d ∷ ds) d)) d ≡ true = subst (λ x. is_sound_index v (claimed_clusters (before v ks (x ∷ ds) d)) d ≡ true) here h in
-        subst (λ x. P (fold (with_index v) ks (x ∷ ds))) (sym here) (index_here P lasts v d adds ks ds r' h'))
+    let r' : RiseFrom (d + 1) ds = subst (λ x. RiseFrom (x + 1) ds) here r.1 in
+    let h' : is_sound_index v (claimed_clusters (before v ks (d ∷ ds) d)) d ≡ true = subst (λ x. is_sound_index v (claimed_clusters (before v ks (x ∷ ds) d)) d ≡ true) here h in
+    subst (λ x. P (fold (with_index v) ks (x ∷ ds))) (sym here) (index_here P lasts v d adds ks ds r' h'))
     (λ there.
-        let earlier : n < d = omega (arith, rise_after (n + 1) d ds r.1 there) in
-        index_among P lasts v d (n + 1) adds (with_index v ks n) ds r.1 there (rw (lt-ltb n d earlier) at h))
+    let earlier : n < d = omega (arith, rise_after (n + 1) d ds r.1 there) in
+    index_among P lasts v d (n + 1) adds (with_index v ks n) ds r.1 there (rw (lt-ltb n d earlier) at h))
     (contains_cases n d ds is)
 
 index_claims : (P : List Claim → Type 0) → Lasts P → (v : Volume) (d : ℕ) → Adds v d P → failing v ≡ [] → Contains (indexed_directories v) d → P (claims_with_indexes v)

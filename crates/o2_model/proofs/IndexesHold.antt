@@ -1,13 +1,13 @@
 -- Where nothing fails, each index holds: its root, its extent blocks and its leaves are owned.
-use Rattle.std.proofs.Common.{◌≡◌, inl, inr, ℕ, Bool, true, false, ◌&&◌, not, List, [], ◌∷◌, refl, sym, ◌∙◌, ap, Option, Some}
+use Rattle.std.proofs.Common.{◌≡◌, inl, inr, ℕ, Bool, true, false, ◌&&◌, not, List, [], ◌∷◌, refl}
 use Rattle.std.specs.List.{Contains, list_all}
 use Rattle.std.specs.Option.{option_map_or}
 use Rattle.std.proofs.lemmas.Bool.{cases_Bool, and_parts, and_right, not_from_true, false≢true}
 use Rattle.o2_model.specs.declared.check.Check.TheVariants as check
 use Rattle.o2_model.specs.Words.{among}
 use Rattle.o2_model.specs.Orders.{is_none_of}
-use Rattle.o2_model.specs.Volume.{Volume, block_size}
-use Rattle.o2_model.specs.Extents.{nothing_read, read_list}
+use Rattle.o2_model.specs.Volume.{Volume}
+use Rattle.o2_model.specs.Extents.{nothing_read}
 use Rattle.o2_model.specs.Inodes.{is_directory}
 use Rattle.o2_model.specs.Allocators.{are_metadata}
 use Rattle.o2_model.specs.Groups.{is_inode, inodes_of}
@@ -105,8 +105,9 @@ lists_parts v d h = elim (cases_Bool (is_inline_index v (index_root v d))) [
       let none = inline_index_extents v d inline in
       record { faults = rw none refl; blocks = rw none refl }
   | inr list ↦
-      let all : (is_none_of (index_extents v d).faults && list_all (λ b. is_own_block v (extent_block_origin v b) b) (index_extents v d).blocks && list_all (is_sound_index_leaf v) (index_leaves v d)) ≡ true = rw list at h in
-      let both = and_parts (is_none_of (index_extents v d).faults) _ (and_parts (is_none_of (index_extents v d).faults && _) _ all).0 in
+      let own = list_all (λ b. is_own_block v (extent_block_origin v b) b) (index_extents v d).blocks in
+      let all : (is_none_of (index_extents v d).faults && own && list_all (is_sound_index_leaf v) (index_leaves v d)) ≡ true = rw list at h in
+      let both = and_parts (is_none_of (index_extents v d).faults) own (and_parts (is_none_of (index_extents v d).faults && own) _ all).0 in
       record { faults = none_of (index_extents v d).faults both.0; blocks = both.1 }
 ]
 

@@ -1,9 +1,8 @@
 -- Where nothing fails, blocks that agree on the owned ones have the same indexes.
-use Rattle.std.proofs.Common.{◌≡◌, inl, inr, ℕ, ◌-◌, ◌/◌, Bool, true, false, ◌&&◌, not, ◌==◌, cond, List, [], ◌∷◌, map, refl, sym, ◌∙◌, ap, Option}
+use Rattle.std.proofs.Common.{◌≡◌, inl, inr, ℕ, ◌-◌, ◌/◌, Bool, ◌&&◌, not, cond, List, [], ◌∷◌, map, refl, sym, ◌∙◌, ap}
 use Rattle.std.specs.Prelude.{filter, flat_map}
 use Rattle.std.specs.List.{Contains}
-use Rattle.std.specs.Option.{option_map_or}
-use Rattle.std.proofs.lemmas.Bool.{cases_Bool, eq-eqb}
+use Rattle.std.proofs.lemmas.Bool.{cases_Bool}
 use Rattle.o2_ondisk.specs.Dinodes.{dinode_of}
 use Rattle.o2_model.specs.declared.allocator.BitUse.{BitUse}
 use Rattle.o2_model.specs.Words.{among}
@@ -11,21 +10,22 @@ use Rattle.o2_model.specs.Volume.{Volume, over, block_size}
 use Rattle.o2_model.specs.Frames.{SameOn}
 use Rattle.o2_model.specs.Extents.{Extents, nothing_read, read_list}
 use Rattle.o2_model.specs.Inodes.{is_directory}
-use Rattle.o2_model.specs.Directories.{DirBlock, dir_blocks, directory_entries}
+use Rattle.o2_model.specs.LeafRecords.{blocks_under}
+use Rattle.o2_model.specs.Directories.{dir_blocks, directory_entries}
 use Rattle.o2_model.specs.Groups.{inodes_of}
-use Rattle.o2_model.specs.Metadata.{Origin, group_with_bit, metadata_blocks}
-use Rattle.o2_model.specs.Indexes.{is_indexed, indexed_directories, index_root, is_index_root, is_inline_index, index_extents, index_blocks, all_index_blocks, index_clusters, index_leaves, dx_entries_at, is_sound_index_leaf, index_entries, is_own_block, index_root_origin, has_sound_index_root, has_sound_index_lists, has_own_index_clusters, dir_block_bytes, ends_in_trailer, has_trailers, has_sound_index_counts, is_found_in_index, is_sound_index}
+use Rattle.o2_model.specs.Metadata.{group_with_bit, metadata_blocks}
+use Rattle.o2_model.specs.Indexes.{is_indexed, indexed_directories, index_root, is_index_root, is_inline_index, index_extents, index_blocks, all_index_blocks, index_clusters, index_leaves, dx_entries_at, is_sound_index_leaf, index_entries}
 use Rattle.o2_model.specs.Failing.{failing}
 use Rattle.o2_model.specs.Agrees.{AgreesOnOwned}
-use Rattle.o2_model.proofs.Found.{found, any_map, contains_among}
-use Rattle.o2_model.proofs.Agreeing.{filter_agree_on, flat_map_agree, all_agree}
+use Rattle.o2_model.proofs.Found.{contains_among}
+use Rattle.o2_model.proofs.Agreeing.{filter_agree_on, flat_map_agree}
 use Rattle.o2_model.proofs.Readings.{list_same}
 use Rattle.o2_model.proofs.SameEntries.{dir_blocks_same}
 use Rattle.o2_model.proofs.DataOwned.{directory_owned}
 use Rattle.o2_model.proofs.SystemOwned.{directory_apart}
 use Rattle.o2_model.proofs.OwnedTells.{dinode_same, listed_inode, owned_tell_extents, owned_tell_entries}
 use Rattle.o2_model.proofs.OwnedTables.{owned_tell_inodes}
-use Rattle.o2_model.proofs.IndexesHold.{IsIndexed, indexed_is, index_well, index_reads, index_root_owned, index_block_owned}
+use Rattle.o2_model.proofs.IndexesHold.{indexed_is, index_well, index_reads, index_root_owned, index_block_owned}
 use Rattle.o2_model.proofs.IndexClaims.{index_leaf_owned}
 
 -- What is the same of the blocks that extent_allocs give out: which are used, and which stand on a bit.
@@ -56,7 +56,8 @@ root_same v at d b same = rw same refl
 inline_same : (v : Volume) (at : ℕ → List ℕ) (b : ℕ) → at b ≡ v.at b → is_inline_index (over v at) b ≡ is_inline_index v b
 inline_same v at b same = rw same refl
 
-read_same : (v : Volume) (at : ℕ → List ℕ) (d root : ℕ) → at root ≡ v.at root → SameOn (read_index v d root).seen v at → (read_index v d root).faults ≡ [] → read_index (over v at) d root ≡ read_index v d root
+read_same : (v : Volume) (at : ℕ → List ℕ) (d root : ℕ) → at root ≡ v.at root → SameOn (read_index v d root).seen v at → (read_index v d root).faults ≡ []
+    → read_index (over v at) d root ≡ read_index v d root
 read_same v at d root here same none =
     let test : (is_index_root (over v at) d root && not (is_inline_index (over v at) root)) ≡ (is_index_root v d root && not (is_inline_index v root))
     = ap (λ x. x && not (is_inline_index (over v at) root)) (root_same v at d root here) ∙ ap (λ x. is_index_root v d root && not x) (inline_same v at root here) in
@@ -68,7 +69,8 @@ read_same v at d root here same none =
 root_number : (v : Volume) (at : ℕ → List ℕ) (d : ℕ) → at d ≡ v.at d → index_root (over v at) d ≡ index_root v d
 root_number v at d same = ap (λ bytes. (dinode_of bytes).dx_root) same
 
-list_read : (v : Volume) (at : ℕ → List ℕ) (d : ℕ) → at d ≡ v.at d → at (index_root v d) ≡ v.at (index_root v d) → SameOn (index_extents v d).seen v at → (index_extents v d).faults ≡ [] → index_extents (over v at) d ≡ index_extents v d
+list_read : (v : Volume) (at : ℕ → List ℕ) (d : ℕ) → at d ≡ v.at d → at (index_root v d) ≡ v.at (index_root v d) → SameOn (index_extents v d).seen v at → (index_extents v d).faults ≡ []
+    → index_extents (over v at) d ≡ index_extents v d
 unfolding index_extents
 list_read v at d inode root same none = ap (read_index (over v at) d) (root_number v at d inode) ∙ read_same v at d (index_root v d) root same none
 
@@ -104,6 +106,12 @@ same_index v at d none agrees is =
       bytes = bytes;
     }
 
+pub owned_tell_index_extents : (v : Volume) (at : ℕ → List ℕ) (d : ℕ) → failing v ≡ [] → AgreesOnOwned v at → Contains (indexed_directories v) d → index_extents (over v at) d ≡ index_extents v d
+owned_tell_index_extents v at d none agrees is = (same_index v at d none agrees is).list
+
+pub owned_tell_index_leaves : (v : Volume) (at : ℕ → List ℕ) (d : ℕ) → failing v ≡ [] → AgreesOnOwned v at → Contains (indexed_directories v) d → index_leaves (over v at) d ≡ index_leaves v d
+owned_tell_index_leaves v at d none agrees is = ap (λ (t : Extents). flat_map (blocks_under v) t.leaves) (owned_tell_index_extents v at d none agrees is)
+
 -- ---- its blocks and clusters
 blocks_same : (v : Volume) (at : ℕ → List ℕ) (d : ℕ) → SameIndex v at d → index_blocks (over v at) d ≡ index_blocks v d
 unfolding index_blocks
@@ -123,7 +131,8 @@ pub index_clusters_same : (v : Volume) (at : ℕ → List ℕ) (d : ℕ) → Sam
 unfolding index_clusters
 index_clusters_same v at d same = rw same.list refl
 
-pub owned_tell_index_clusters : (v : Volume) (at : ℕ → List ℕ) (d : ℕ) → failing v ≡ [] → AgreesOnOwned v at → Contains (indexed_directories v) d → index_clusters (over v at) d ≡ index_clusters v d
+pub owned_tell_index_clusters : (v : Volume) (at : ℕ → List ℕ) (d : ℕ) → failing v ≡ [] → AgreesOnOwned v at → Contains (indexed_directories v) d
+    → index_clusters (over v at) d ≡ index_clusters v d
 owned_tell_index_clusters v at d none agrees is = index_clusters_same v at d (same_index v at d none agrees is)
 
 -- ---- its entries
@@ -132,6 +141,9 @@ unfolding index_entries
 index_entries_same v at d same =
     let each = flat_map_agree (dx_entries_at (over v at) 0x28) (dx_entries_at v 0x28) (index_leaves v d) (λ b is. rw (same.leaves.same b (contains_among (index_leaves v d) b is)) refl) in
     rw (same.inode, same.root, same.list, each) refl
+
+pub owned_tell_index_entries : (v : Volume) (at : ℕ → List ℕ) (d : ℕ) → failing v ≡ [] → AgreesOnOwned v at → Contains (indexed_directories v) d → index_entries (over v at) d ≡ index_entries v d
+owned_tell_index_entries v at d none agrees is = index_entries_same v at d (same_index v at d none agrees is)
 
 pub leaf_same : (v : Volume) (at : ℕ → List ℕ) (b : ℕ) → at b ≡ v.at b → is_sound_index_leaf (over v at) b ≡ is_sound_index_leaf v b
 unfolding is_sound_index_leaf

@@ -1,5 +1,5 @@
 -- Where nothing fails, blocks that agree on the owned ones have the same owned blocks.
-use Rattle.std.proofs.Common.{◌≡◌, inl, inr, ℕ, true, false, ◌&&◌, ◌==◌, List, [], ◌∷◌, refl, ◌∙◌, ap}
+use Rattle.std.proofs.Common.{◌≡◌, inl, inr, ℕ, true, ◌&&◌, ◌==◌, List, [], ◌∷◌, refl, ◌∙◌, ap, Option}
 use Rattle.std.specs.Prelude.{flat_map}
 use Rattle.std.specs.List.{list_any, range_with_len}
 use Rattle.std.specs.Option.{option_map_or}
@@ -33,8 +33,9 @@ use Rattle.o2_model.proofs.ClaimsKeep.{owned_tell_claims}
 pub owned_tell_journals : (v : Volume) (at : ℕ → List ℕ) → failing v ≡ [] → AgreesOnOwned v at → journals (over v at) ≡ journals v
 unfolding journals
 owned_tell_journals v at none agrees =
-    let of_slot = λ (w : Volume) (slot : ℕ). option_map_or (λ (b : ℕ). b ∷ []) (named_journal w slot) [] in
-    flat_map_agree (of_slot (over v at)) (of_slot v) (slots v) (λ slot is. ap (λ o. option_map_or (λ (b : ℕ). b ∷ []) o []) (inode_same v at (owned_tell_system_files v at none agrees) (OfSlot Journal slot)))
+    let named = λ (o : Option ℕ). option_map_or (λ (b : ℕ). b ∷ []) o [] in
+    flat_map_agree (λ slot. named (named_journal (over v at) slot)) (λ slot. named (named_journal v slot)) (slots v)
+    (λ slot is. ap named (inode_same v at (owned_tell_system_files v at none agrees) (OfSlot Journal slot)))
 
 pub owned_tell_journal_blocks : (v : Volume) (at : ℕ → List ℕ) (i : ℕ) → failing v ≡ [] → AgreesOnOwned v at → is_inode v i ≡ true → journal_blocks (over v at) i ≡ journal_blocks v i
 unfolding journal_blocks

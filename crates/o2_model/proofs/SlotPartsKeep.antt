@@ -1,4 +1,4 @@
--- Where nothing fails, LOCAL_ALLOC and TRUNCATE_LOG fail at the same dinodes over blocks that agree on the owned ones.
+-- Where nothing fails, blocks that agree on the owned ones have the same answers of LOCAL_ALLOC and TRUNCATE_LOG.
 use Rattle.std.proofs.Common.{◌≡◌, ℕ, Bool, ◌&&◌, List, [], ◌∷◌, refl, ◌∙◌, ap, Option, Some, None}
 use Rattle.std.specs.Option.{option_map_or}
 use Rattle.o2_ondisk.specs.declared.truncate_rec.TruncateRec.{TruncateRec}
@@ -50,7 +50,8 @@ truncations_same v at slot ks (r ∷ rs) =
     ∙ ap (λ x. is_sound_truncation v (claimed_clusters ks) r && x)
     (ap (λ es. are_sound_truncations (over v at) slot es rs) (with_truncation_same v at slot ks r) ∙ truncations_same v at slot (with_truncation v slot ks r) rs)
 
-log_same : (v : Volume) (at : ℕ → List ℕ) (slot b : ℕ) → failing v ≡ [] → AgreesOnOwned v at → SameMetadata v at → at b ≡ v.at b → is_sound_truncate_log (over v at) slot b ≡ is_sound_truncate_log v slot b
+log_same : (v : Volume) (at : ℕ → List ℕ) (slot b : ℕ) → failing v ≡ [] → AgreesOnOwned v at → SameMetadata v at → at b ≡ v.at b
+    → is_sound_truncate_log (over v at) slot b ≡ is_sound_truncate_log v slot b
 unfolding is_sound_truncate_log
 log_same v at slot b none agrees metadata same =
     rw (truncate_header_same v at b same, owned_tell_claims_with_truncations v at slot none agrees metadata, truncate_records_same v at b same)

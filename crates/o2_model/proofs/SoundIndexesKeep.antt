@@ -28,10 +28,14 @@ own_blocks_same v at none agrees metadata o b =
 root_holds : (v : Volume) (at : ℕ → List ℕ) (d : ℕ) → SameOwnBlocks v at → SameIndex v at d → has_sound_index_root (over v at) d ≡ has_sound_index_root v d
 root_holds v at d own same = rw (same.inode, same.root, root_same v at d (index_root v d) same.root, own _ (index_root v d)) refl
 
+origin_same : (v : Volume) (at : ℕ → List ℕ) (b : ℕ) → at b ≡ v.at b → extent_block_origin (over v at) b ≡ extent_block_origin v b
+origin_same v at b same = rw same refl
+
 lists_hold : (v : Volume) (at : ℕ → List ℕ) (d : ℕ) → SameOwnBlocks v at → SameIndex v at d → has_sound_index_lists (over v at) d ≡ has_sound_index_lists v d
 lists_hold v at d own same =
-    let blocks = all_agree (λ b. is_own_block (over v at) (extent_block_origin (over v at) b) b) (λ b. is_own_block v (extent_block_origin v b) b) (index_extents v d).blocks
-    (λ b is. ap (λ bytes. is_own_block (over v at) (extent_block_origin (record v { at = λ c. bytes }) b) b) (same.blocks.same b (contains_among (index_extents v d).blocks b is)) ∙ own (extent_block_origin v b) b) in
+    let own_block = λ (w : Volume) (b : ℕ). is_own_block w (extent_block_origin w b) b in
+    let blocks = all_agree (own_block (over v at)) (own_block v) (index_extents v d).blocks
+    (λ b is. ap (λ o. is_own_block (over v at) o b) (origin_same v at b (same.blocks.same b (contains_among (index_extents v d).blocks b is))) ∙ own (extent_block_origin v b) b) in
     let leaves = all_agree (is_sound_index_leaf (over v at)) (is_sound_index_leaf v) (index_leaves v d) (λ b is. leaf_same v at b (same.leaves.same b (contains_among (index_leaves v d) b is))) in
     rw (same.inode, same.root, same.list, blocks, leaves) refl
 
