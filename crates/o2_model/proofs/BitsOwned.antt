@@ -22,7 +22,7 @@ use Rattle.o2_model.proofs.GroupsOwned.{group_blocks_owned}
 
 -- ---- on a bit
 -- what has a test is some
-when_some : {A : Type 0} (P : Type 0) (test : A → Bool) (o : Option A) → ((x : A) → o ≡ Some x → P) → option_map_or test o false ≡ true → P
+pub when_some : {A : Type 0} (P : Type 0) (test : A → Bool) (o : Option A) → ((x : A) → o ≡ Some x → P) → option_map_or test o false ≡ true → P
 when_some P test None some h = absurd (false≢true h)
 when_some P test (Some x) some h = some x refl
 
@@ -57,7 +57,7 @@ unfolding is_inode
 dinode_owned v b h = inode_bit_owned v b (and_parts (is_valid v b) (has_bit v b) h).1
 
 -- ---- extent blocks and refcount blocks
-metadata_bit_owned : (v : Volume) (b : ℕ) → is_on_metadata_bit v b ≡ true → is_owned v b ≡ true
+pub metadata_bit_owned : (v : Volume) (b : ℕ) → is_on_metadata_bit v b ≡ true → is_owned v b ≡ true
 unfolding group_with_bit
 metadata_bit_owned v b h =
     when_some (is_owned v b ≡ true) (λ g. true) (find (λ g. are_metadata g.of.bit_use && is_on_bit v b g) (groups v)) (λ g is.

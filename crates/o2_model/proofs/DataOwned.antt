@@ -1,7 +1,7 @@
 -- The blocks of an inode's clusters are owned.
 use Rattle.std.proofs.Common.{◌≡◌, inl, inr, ℕ, ◌+◌, ◌-◌, ◌*◌, ◌/◌, ◌<◌, ◌≤◌, Bool, true, false, ◌&&◌, ◌==◌, List, [], ◌∷◌, map, refl, sym, ◌∙◌, ap, subst, arith}
 use Rattle.std.specs.Prelude.{filter, flat_map, nat_lt}
-use Rattle.std.specs.List.{list_any, Contains, range_with_len}
+use Rattle.std.specs.List.{list_any, AllByRecursion, Contains, range_with_len}
 use Rattle.std.proofs.lemmas.Bool.{cases_Bool, and_from, and_parts, or_left, eq-eqb, eqb-true, not_from_false}
 use Rattle.std.proofs.lemmas.Bool.Decides.{nat_tests}
 use Rattle.std.proofs.lemmas.Nat.{pow_pos}
@@ -12,7 +12,7 @@ use Rattle.o2_model.specs.Words.{among}
 use Rattle.o2_model.specs.Volume.{Volume, blocks, per_cluster, is_valid}
 use Rattle.o2_model.specs.Clusters.{cluster_of}
 use Rattle.o2_model.specs.Extents.{leaf_clusters}
-use Rattle.o2_model.specs.Inodes.{leaf_records, records_of, is_inline}
+use Rattle.o2_model.specs.Inodes.{leaf_records, is_inline}
 use Rattle.o2_model.specs.LeafRecords.{clusters_under, blocks_under}
 use Rattle.o2_model.specs.Directories.{dir_block, mapped, is_written, dir_blocks}
 use Rattle.o2_model.specs.Journals.{journals}
@@ -21,6 +21,7 @@ use Rattle.o2_model.specs.Frames.{has_bit, content_blocks}
 use Rattle.o2_model.specs.Claims.{claims_by, clusters_of, inode_claims}
 use Rattle.o2_model.specs.Owned.{needs_bytes, is_owned}
 use Rattle.o2_model.proofs.Found.{found, any_map, any_flat, any_filter, any_range, passing, range_bounds, each_of}
+use Rattle.o2_model.proofs.Members.{among_contains}
 use Rattle.o2_model.proofs.OwnedBlocks.{owns, inode_owned, by_claim}
 use Rattle.o2_model.proofs.GroupsOwned.{cluster_in}
 use Rattle.o2_model.proofs.WellRead.{BeginsCluster, extents_well, records_are}
@@ -67,15 +68,16 @@ under_cluster v r b begins is =
 abbrev pub data_blocks : Volume → ℕ → List ℕ
 data_blocks v i = flat_map (blocks_under v) (leaf_records v i)
 
+-- the cluster of a block under some records is under them
+pub under_records : (v : Volume) (b : ℕ) (rs : List ExtentRec) → AllByRecursion (BeginsCluster v) rs → among (flat_map (blocks_under v) rs) b ≡ true → list_any (λ c. c == cluster_of v b) (flat_map (clusters_under v) rs) ≡ true
+under_records v b rs all h =
+    let r = passing (λ r. among (blocks_under v r) b) rs (sym (any_flat (λ m. b == m) (blocks_under v) rs) ∙ h) in
+    any_flat (λ c. c == cluster_of v b) (clusters_under v) rs
+    ∙ found (λ r. list_any (λ c. c == cluster_of v b) (clusters_under v r)) rs r.item r.inside
+    (under_cluster v r.item b (each_of (BeginsCluster v) rs r.item all r.inside) (among_contains (blocks_under v r.item) b r.passes))
+
 pub data_mapped : (v : Volume) (i b : ℕ) → among (data_blocks v i) b ≡ true → list_any (λ c. c == cluster_of v b) (clusters_of v i) ≡ true
-data_mapped v i b h =
-    let r = passing (λ r. among (blocks_under v r) b) (leaf_records v i) (sym (any_flat (λ m. b == m) (blocks_under v) (leaf_records v i)) ∙ h) in
-    let m = passing (λ m. b == m) (blocks_under v r.item) r.passes in
-    let is : Contains (blocks_under v r.item) b = subst (Contains (blocks_under v r.item)) (omega (arith, eqb-true b m.item m.passes)) m.inside in
-    let begins = each_of (BeginsCluster v) (leaf_records v i) r.item (extents_well v i).leaves r.inside in
-    any_flat (λ c. c == cluster_of v b) (clusters_under v) (records_of v i)
-    ∙ ap (list_any (λ r. list_any (λ c. c == cluster_of v b) (clusters_under v r))) (records_are v i)
-    ∙ found (λ r. list_any (λ c. c == cluster_of v b) (clusters_under v r)) (leaf_records v i) r.item r.inside (under_cluster v r.item b begins is)
+data_mapped v i b h = ap (λ rs. list_any (λ c. c == cluster_of v b) (flat_map (clusters_under v) rs)) (records_are v i) ∙ under_records v b (leaf_records v i) (extents_well v i).leaves h
 
 pub data_owned : (v : Volume) (i b : ℕ) → is_inode v i ≡ true → among (journals v) i ≡ false → among (data_blocks v i) b ≡ true → is_owned v b ≡ true
 data_owned v i b is apart h = mapped_owned v i b is (or_left _ _ (not_from_false _ apart)) (data_mapped v i b h)

@@ -14,7 +14,7 @@ use Rattle.o2_model.specs.Checks.DirentName.{is_sound_name, dirent_name_faults}
 use Rattle.o2_model.specs.Checks.DirentDup.{are_namesakes, dirent_dup_faults}
 use Rattle.o2_model.specs.Failing.{of_each_directory, faults, failing}
 use Rattle.o2_model.specs.Agrees.{AgreesOnOwned}
-use Rattle.o2_model.proofs.Found.{contains_filter}
+use Rattle.o2_model.proofs.Members.{contains_filter}
 use Rattle.o2_model.proofs.Agreeing.{flat_map_agree, filter_agree_on}
 use Rattle.o2_model.proofs.SameInodes.{directory_same}
 use Rattle.o2_model.proofs.OwnedTells.{dinode_same, listed_is_inode}

@@ -1,9 +1,9 @@
 -- Where a list is mapped, joined or filtered, a test finds what it found before.
-use Rattle.std.proofs.Common.{◌≡◌, inl, inr, ◌⊎◌, ⊎_elim, ℕ, zero, suc, ◌+◌, ◌-◌, ◌<◌, ◌≤◌, Bool, true, ◌&&◌, ◌||◌, List, [], ◌∷◌, ◌++◌, map, refl, ◌∙◌, ap, arith, Some}
+use Rattle.std.proofs.Common.{◌≡◌, inl, inr, ℕ, zero, suc, ◌+◌, ◌-◌, ◌<◌, ◌≤◌, Bool, true, ◌&&◌, ◌||◌, List, [], ◌∷◌, ◌++◌, map, refl, sym, ◌∙◌, ap, arith, Some}
 use Rattle.std.specs.Prelude.{flat_map, filter, find, slice_get}
-use Rattle.std.specs.List.{list_any, AllByRecursion, Contains, range_with_len}
+use Rattle.std.specs.List.{list_any, list_all, AllByRecursion, Contains, range_with_len}
 use Rattle.std.proofs.lemmas.Bool.{cases_Bool, false≢true}
-use Rattle.std.proofs.lemmas.List.Folds.{list_any-append, list_any_at}
+use Rattle.std.proofs.lemmas.List.Folds.{list_any-append, list_any_at, list_all_at}
 use Rattle.std.proofs.lemmas.List.FromFn.{length-range_with_len, get_or-range_with_len}
 use Rattle.o2_model.specs.Words.{push}
 
@@ -43,22 +43,6 @@ contains_first x xs = (0, omega arith, refl)
 pub contains_later : {A : Type 0} (y x : A) (xs : List A) → Contains xs x → Contains (y ∷ xs) x
 contains_later y x xs is = (suc is.0, omega (arith, is.1), is.2)
 
-contains_parts : {A : Type 0} (y x : A) (ys : List A) → Contains (y ∷ ys) x → (y ≡ x) ⊎ Contains ys x
-contains_parts y x ys (zero, within, is) = inl is
-contains_parts y x ys (suc k, within, is) = inr (k, omega (arith, within), is)
-
--- what a filter keeps was there, and passes
-pub contains_filter : {A : Type 0} (q : A → Bool) (xs : List A) (x : A) → Contains (filter q xs) x → Contains xs x × (q x ≡ true)
-contains_filter q [] x is = absurd (omega (arith, is.1))
-contains_filter q (y ∷ ys) x is = elim (cases_Bool (q y)) [
-  | inl good ↦
-      let kept : Contains (y ∷ filter q ys) x = rw good at is in
-      ⊎_elim (λ same. rw (← same) (contains_first y ys, good))
-      (λ later. let rest = contains_filter q ys x later in (contains_later y x ys rest.0, rest.1))
-      (contains_parts y x (filter q ys) kept)
-  | inr bad ↦ let rest = contains_filter q ys x (rw bad at is) in (contains_later y x ys rest.0, rest.1)
-]
-
 pub passing : {A : Type 0} (p : A → Bool) (xs : List A) → list_any p xs ≡ true → Passing p xs
 passing p [] h = absurd (false≢true h)
 passing p (x ∷ xs) h = elim (cases_Bool (p x)) [
@@ -93,6 +77,13 @@ pub each_of : {A : Type 0} (P : A → Type 0) (xs : List A) (x : A) → AllByRec
 each_of P [] x all is = absurd (omega (arith, is.1))
 each_of P (y ∷ ys) x all (zero, within, is) = rw (← is) all.0
 each_of P (y ∷ ys) x all (suc k, within, is) = each_of P ys x all.1 (k, omega (arith, within), is)
+
+-- where all pass, each does
+pub passes_of_all : {A : Type 0} (p : A → Bool) (xs : List A) (x : A) → list_all p xs ≡ true → Contains xs x → p x ≡ true
+passes_of_all p xs x all is = elim (cases_Bool (p x)) [
+  | inl good ↦ good
+  | inr bad ↦ absurd (false≢true (sym (list_all_at p xs is.0 x is.1 (ap p is.2 ∙ bad)) ∙ all))
+]
 
 -- a list joined of two that is empty
 pub append_nothing : {A : Type 0} (xs ys : List A) → xs ++ ys ≡ [] → (xs ≡ []) × (ys ≡ [])

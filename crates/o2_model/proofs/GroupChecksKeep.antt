@@ -25,7 +25,8 @@ use Rattle.o2_model.specs.Failing.{faults, failing}
 use Rattle.o2_model.specs.Agrees.{AgreesOnOwned}
 use Rattle.o2_model.proofs.SameAllocators.{allocators_same}
 use Rattle.o2_model.proofs.Agreeing.{all_agree, sum_by_agree, fails_agree, flat_map_agree}
-use Rattle.o2_model.proofs.Found.{found, contains_filter}
+use Rattle.o2_model.proofs.Found.{found}
+use Rattle.o2_model.proofs.Members.{contains_filter}
 use Rattle.o2_model.proofs.GroupsOwned.{descriptor_owned}
 use Rattle.o2_model.proofs.OwnedTells.{dinode_same, listed_is_inode}
 use Rattle.o2_model.proofs.MetadataKeeps.{owned_tell_group_with_bit}

@@ -25,22 +25,22 @@ use Rattle.o2_model.proofs.GoodGroups.{groups_good}
 
 -- ---- up to the first group
 -- the claims of structures, list by list
-abbrev super_claims : Volume → List Claim
+abbrev pub super_claims : Volume → List Claim
 super_claims v = claims_by Super (range_with_len 0 (cluster_of v v.geo.first_group + 1))
 
-abbrev global_claims : Volume → List Claim
+abbrev pub global_claims : Volume → List Claim
 global_claims v = claims_by GlobalGroup (map (λ i. i * group_size v) (from_to 1 (group_count v)))
 
-abbrev backup_claims : Volume → List Claim
+abbrev pub backup_claims : Volume → List Claim
 backup_claims v = claims_by Backup (backup_clusters v)
 
-abbrev clusters_claimed_by : Volume → Group → List Claim
+abbrev pub clusters_claimed_by : Volume → Group → List Claim
 clusters_claimed_by v g = claims_by (Suballocator g.of.block) (group_clusters v g.block g.bits)
 
-abbrev block_group_claims : Volume → List Claim
+abbrev pub block_group_claims : Volume → List Claim
 block_group_claims v = flat_map (clusters_claimed_by v) (filter (λ g. not (is_of_clusters g)) (groups v))
 
-structures-are : (v : Volume) → structure_claims v ≡ ((super_claims v ++ global_claims v) ++ backup_claims v) ++ block_group_claims v
+pub structures-are : (v : Volume) → structure_claims v ≡ ((super_claims v ++ global_claims v) ++ backup_claims v) ++ block_group_claims v
 unfolding structure_claims
 structures-are v = refl
 

@@ -15,9 +15,9 @@ use Rattle.o2_model.specs.Checks.LastEb.{last_leaf, last_eb_faults}
 use Rattle.o2_model.specs.Failing.{faults, failing}
 use Rattle.o2_model.specs.Owned.{is_owned}
 use Rattle.o2_model.specs.Agrees.{AgreesOnOwned}
-use Rattle.o2_model.proofs.Found.{contains_first, contains_later, contains_filter}
+use Rattle.o2_model.proofs.Found.{contains_first, contains_later}
+use Rattle.o2_model.proofs.Members.{contains_one, contains_filter, contains_flat, flat_contains}
 use Rattle.o2_model.proofs.Agreeing.{flat_map_agree, filter_agree_on, fails_agree}
-use Rattle.o2_model.proofs.Members.{contains_flat, contains_one, flat_contains}
 use Rattle.o2_model.proofs.Readings.{same_has_list}
 use Rattle.o2_model.proofs.WellRead.{extent_blocks_are}
 use Rattle.o2_model.proofs.OwnedTells.{owned_tell_extents, listed_is_inode}

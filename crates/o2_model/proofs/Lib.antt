@@ -53,3 +53,13 @@ pub mod InodeChecksKeep
 pub mod DirectoryChecksKeep
 pub mod TreeChecksKeep
 pub mod OrphanChecksKeep
+pub mod IndexesHold
+pub mod IndexClaims
+pub mod IndexesKeep
+pub mod SoundIndexesKeep
+pub mod ClaimsKeep
+pub mod OwnedKeep
+pub mod DxKeeps
+pub mod SlotPartsKeep
+pub mod AllocBitsKeep
+pub mod DupClustersKeeps

@@ -1,8 +1,8 @@
 -- What is a member of a list that is filtered, joined or put in order.
-use Rattle.std.proofs.Common.{◌≡◌, ◌⊎◌, inl, inr, ℕ, zero, suc, true, ◌==◌, List, [], ◌∷◌, refl, sym, subst, arith}
-use Rattle.std.specs.Prelude.{flat_map}
+use Rattle.std.proofs.Common.{◌≡◌, ◌⊎◌, inl, inr, ℕ, zero, suc, Bool, true, ◌==◌, List, [], ◌∷◌, refl, sym, subst, arith}
+use Rattle.std.specs.Prelude.{filter, flat_map}
 use Rattle.std.specs.List.{Contains}
-use Rattle.std.proofs.lemmas.Bool.{eq-eqb, eqb-true}
+use Rattle.std.proofs.lemmas.Bool.{cases_Bool, eq-eqb, eqb-true}
 use Rattle.std.proofs.lemmas.List.Elements.{Contains-append_left, Contains-append_right, Contains-append_cases}
 use Rattle.o2_model.specs.Words.{among}
 use Rattle.o2_model.proofs.Found.{contains_first, contains_later, found, passing}
@@ -14,6 +14,17 @@ contains_cases y x ys (suc k, within, is) = inr (k, omega (arith, within), is)
 
 pub contains_one : {A : Type 0} (y x : A) → Contains (y ∷ []) x → y ≡ x
 contains_one y x is = elim (contains_cases y x [] is) [ inl same ↦ same | inr there ↦ absurd (omega (arith, there.1)) ]
+
+-- what a filter keeps was there, and passes
+pub contains_filter : {A : Type 0} (p : A → Bool) (xs : List A) (x : A) → Contains (filter p xs) x → Contains xs x × (p x ≡ true)
+contains_filter p [] x is = absurd (omega (arith, is.1))
+contains_filter p (y ∷ ys) x is = elim (cases_Bool (p y)) [
+  | inr bad ↦ let later = contains_filter p ys x (rw bad at is) in (contains_later y x ys later.0, later.1)
+  | inl good ↦ elim (contains_cases y x (filter p ys) (rw good at is)) [
+    | inl here ↦ rw (← here) (contains_first y ys, good)
+    | inr there ↦ let later = contains_filter p ys x there in (contains_later y x ys later.0, later.1)
+  ]
+]
 
 -- what a part of a joined list has is of the whole
 pub contains_flat : {A B : Type 0} (f : A → List B) (xs : List A) (x : A) (y : B) → Contains xs x → Contains (f x) y → Contains (flat_map f xs) y

@@ -15,13 +15,12 @@ use Rattle.o2_model.specs.Checks.MetaSuballoc.{extent_blocks, roots_and_leaves, 
 use Rattle.o2_model.specs.Failing.{faults, failing}
 use Rattle.o2_model.specs.Owned.{is_owned}
 use Rattle.o2_model.specs.Agrees.{AgreesOnOwned}
+use Rattle.o2_model.proofs.Members.{contains_filter, flat_contains}
 use Rattle.o2_model.proofs.Agreeing.{flat_map_agree, filter_agree_on, fails_agree}
-use Rattle.o2_model.proofs.Members.{flat_contains}
 use Rattle.o2_model.proofs.BlockNames.{refcount_block_same}
 use Rattle.o2_model.proofs.RootsKeep.{owned_tell_roots}
 use Rattle.o2_model.proofs.RefcountsKeep.{root_owned, list_block_owned, leaf_owned, owned_tell_leaf_list}
 use Rattle.o2_model.proofs.MetadataKeeps.{owned_tell_list_blocks, owned_tell_metadata, owned_tell_metadata_bit, owned_tell_origin, listed_block_owned}
-use Rattle.o2_model.proofs.Found.{contains_filter}
 
 -- ---- META_BLOCK
 sound_block_same : (v : Volume) (at : ℕ → List ℕ) (b : ℕ) → failing v ≡ [] → AgreesOnOwned v at → is_sound_metadata_block (over v at) b ≡ is_sound_metadata_block v b

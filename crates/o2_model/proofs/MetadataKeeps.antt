@@ -14,8 +14,8 @@ use Rattle.o2_model.specs.Metadata.{Origin, is_on_bit, group_with_bit, is_on_met
 use Rattle.o2_model.specs.Failing.{failing}
 use Rattle.o2_model.specs.Owned.{is_owned}
 use Rattle.o2_model.specs.Agrees.{AgreesOnOwned}
-use Rattle.o2_model.proofs.Agreeing.{flat_map_agree}
 use Rattle.o2_model.proofs.Members.{contains_flat, contains_among}
+use Rattle.o2_model.proofs.Agreeing.{flat_map_agree}
 use Rattle.o2_model.proofs.Readings.{same_has_list}
 use Rattle.o2_model.proofs.BitsOwned.{metadata_owned}
 use Rattle.o2_model.proofs.OwnedTells.{metadata_holds, dinode_same, owned_tell_extents, listed_is_inode}

@@ -21,14 +21,14 @@ use Rattle.o2_model.proofs.Found.{found, any_map, passing}
 
 -- ---- claims stay
 -- what stays where claims are added
-abbrev Lasts : (List Claim → Type 0) → Type 0
+abbrev pub Lasts : (List Claim → Type 0) → Type 0
 Lasts P = (ks more : List Claim) → P ks → P (ks ++ more)
 
-lasts_if : (P : List Claim → Type 0) → Lasts P → (c : Bool) (ks more : List Claim) → P ks → P (cond c (ks ++ more) ks)
+pub lasts_if : (P : List Claim → Type 0) → Lasts P → (c : Bool) (ks more : List Claim) → P ks → P (cond c (ks ++ more) ks)
 lasts_if P lasts true ks more h = lasts ks more h
 lasts_if P lasts false ks more h = h
 
-lasts_fold : {A : Type 0} (P : List Claim → Type 0) (f : List Claim → A → List Claim) → ((ks : List Claim) (x : A) → P ks → P (f ks x)) → (ks : List Claim) (xs : List A) → P ks → P (fold f ks xs)
+pub lasts_fold : {A : Type 0} (P : List Claim → Type 0) (f : List Claim → A → List Claim) → ((ks : List Claim) (x : A) → P ks → P (f ks x)) → (ks : List Claim) (xs : List A) → P ks → P (fold f ks xs)
 lasts_fold P f step ks [] h = h
 lasts_fold P f step ks (x ∷ xs) h = lasts_fold P f step (f ks x) xs (step ks x h)
 
@@ -40,13 +40,17 @@ lasts_log : (P : List Claim → Type 0) → Lasts P → (v : Volume) (ks : List 
 lasts_log P lasts v ks slot None h = h
 lasts_log P lasts v ks slot (Some b) h = lasts_fold P (with_truncation v slot) (λ es r k. lasts_if P lasts _ es _ k) ks (truncate_records v b) h
 
--- whatever lasts of the claims of structures and inodes is so of all claims
-claims_last : (P : List Claim → Type 0) → Lasts P → (v : Volume) → P (structure_claims v ++ inode_claims v) → P (claims_of v)
-unfolding claims_of claims_with_truncations claims_with_windows claims_with_indexes
-claims_last P lasts v h =
-    let indexes = lasts_fold P (with_index v) (λ ks d k. lasts_if P lasts _ ks _ k) _ (indexed_directories v) h in
-    let windows = lasts_fold P (with_window v) (λ ks slot k. lasts_window P lasts v ks slot (system_inode v (OfSlot slot_file.LocalAlloc slot)) k) _ (range_with_len 0 v.geo.slots) indexes in
+-- whatever lasts of the claims of structures, inodes and indexes is so of all claims
+pub indexes_last : (P : List Claim → Type 0) → Lasts P → (v : Volume) → P (claims_with_indexes v) → P (claims_of v)
+unfolding claims_of claims_with_truncations claims_with_windows
+indexes_last P lasts v h =
+    let windows = lasts_fold P (with_window v) (λ ks slot k. lasts_window P lasts v ks slot (system_inode v (OfSlot slot_file.LocalAlloc slot)) k) _ (range_with_len 0 v.geo.slots) h in
     lasts_fold P (with_truncate_log v) (λ ks slot k. lasts_log P lasts v ks slot (system_inode v (OfSlot slot_file.TruncateLog slot)) k) _ (range_with_len 0 v.geo.slots) windows
+
+-- and of those of structures and inodes alone
+claims_last : (P : List Claim → Type 0) → Lasts P → (v : Volume) → P (structure_claims v ++ inode_claims v) → P (claims_of v)
+unfolding claims_with_indexes
+claims_last P lasts v h = indexes_last P lasts v (lasts_fold P (with_index v) (λ ks d k. lasts_if P lasts _ ks _ k) _ (indexed_directories v) h)
 
 pub structures_claim : (v : Volume) (k : Claim) → Contains (structure_claims v) k → Contains (claims_of v) k
 structures_claim v k is =

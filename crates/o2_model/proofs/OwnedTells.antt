@@ -23,8 +23,8 @@ use Rattle.o2_model.proofs.NothingFails.{no_check_fails}
 use Rattle.o2_model.proofs.Readings.{extents_same, faults_of_own_list}
 use Rattle.o2_model.proofs.SameEntries.{dir_blocks_same}
 use Rattle.o2_model.proofs.SameContents.{content_same, file_same}
-use Rattle.o2_model.proofs.Found.{append_nothing, any_flat, each_of, contains_filter}
-use Rattle.o2_model.proofs.Members.{among_contains}
+use Rattle.o2_model.proofs.Found.{append_nothing, any_flat, each_of}
+use Rattle.o2_model.proofs.Members.{contains_filter, among_contains}
 use Rattle.o2_model.proofs.WellRead.{extents_well, extent_blocks_are}
 use Rattle.o2_model.proofs.BitsOwned.{dinode_owned, metadata_owned}
 use Rattle.o2_model.proofs.DataOwned.{among_inodes, content_owned, directory_owned}

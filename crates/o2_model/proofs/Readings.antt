@@ -1,5 +1,5 @@
 -- What the reading of an extent tree keeps, what it looks at, and what it gives where nothing is wrong.
-use Rattle.std.proofs.Common.{◌≡◌, inl, inr, ℕ, zero, suc, ◌+◌, Bool, true, false, cond, not, ◌==◌, List, [], ◌∷◌, ◌++◌, refl, sym, ◌∙◌}
+use Rattle.std.proofs.Common.{◌≡◌, inl, inr, ℕ, zero, suc, ◌+◌, Bool, true, false, cond, not, ◌==◌, List, [], ◌∷◌, ◌++◌, refl, sym, ◌∙◌, ap}
 use Rattle.std.proofs.lemmas.Bool.{cases_Bool, or_right, or_left, eq-eqb}
 use Rattle.std.proofs.lemmas.List.{append-nil, append_assoc}
 use Rattle.std.proofs.lemmas.List.Folds.{list_any-append}
@@ -8,7 +8,7 @@ use Rattle.o2_model.specs.Words.{among, push}
 use Rattle.o2_model.specs.Volume.{Volume, over}
 use Rattle.o2_model.specs.Frames.{SameOn}
 use Rattle.o2_model.specs.Clusters.{are_clusters_in_range}
-use Rattle.o2_model.specs.Extents.{Extents, leaf_clusters, list_in_block, with_leaf, with_seen, with_block, with_fault, end_of, is_sound_header, is_extent_block, is_sound_leaf, names_new_block, most_in_block, with_met, records_in_block, read_records, nothing_read, leaves_below, extent_list}
+use Rattle.o2_model.specs.Extents.{Extents, leaf_clusters, list_in_block, with_leaf, with_seen, with_block, with_fault, end_of, is_sound_header, is_extent_block, is_sound_leaf, names_new_block, most_in_block, with_met, records_in_block, read_records, read_list, nothing_read, leaves_below, extent_list}
 use Rattle.o2_model.specs.Checks.Extent.{extent_faults}
 use Rattle.o2_model.specs.Inodes.{is_directory, extents, has_list, most_flags, extent_lists_of, most_in_dinode}
 
@@ -144,22 +144,34 @@ reading_same v at m (suc depth) holder low (r ∷ rs) t same none =
 pub same_has_list : (v : Volume) (at : ℕ → List ℕ) (b : ℕ) → at b ≡ v.at b → has_list (over v at) b ≡ has_list v b
 same_has_list v at b same = rw same refl
 
--- and so does an inode
+-- and so does a list in a block
+pub list_same : (v : Volume) (at : ℕ → List ℕ) (m holder place most : ℕ) → at holder ≡ v.at holder → SameOn (read_list v m holder place most).seen v at → (read_list v m holder place most).faults ≡ []
+    → read_list (over v at) m holder place most ≡ read_list v m holder place most
+list_same v at m holder place most here same none =
+    let list = extent_list place (v.at holder) in
+    elim (cases_Bool (is_sound_header most list.header)) [
+      | inr bad ↦ rw (here, bad) refl
+      | inl sound ↦
+          rw (here, sound)
+          (reading_same v at m list.header.tree_depth holder 0 list.records nothing_read (rw sound at same) (rw sound at none))
+    ]
+
+same_flags : (v : Volume) (at : ℕ → List ℕ) (b : ℕ) → at b ≡ v.at b → most_flags (over v at) b ≡ most_flags v b
+unfolding is_directory
+same_flags v at b same = rw same refl
+
+-- and an inode
 pub extents_same : (v : Volume) (at : ℕ → List ℕ) (b : ℕ) → SameOn (b ∷ (extents v b).seen) v at → (extents v b).faults ≡ [] → extents (over v at) b ≡ extents v b
-unfolding extents is_directory
+unfolding extents
 extents_same v at b same none =
-    let list = extent_list 0xc0 (v.at b) in
     let here : at b ≡ v.at b = same.same b (or_left _ _ (eq-eqb b b refl)) in
     elim (cases_Bool (has_list v b)) [
       | inr none_here ↦ rw (same_has_list v at b here, none_here) refl
-      | inl has ↦ elim (cases_Bool (is_sound_header (most_in_dinode v) list.header)) [
-        | inr bad ↦ rw (same_has_list v at b here, here, has, bad) refl
-        | inl sound ↦
-            rw (same_has_list v at b here, here, has, sound)
-            (reading_same v at (most_flags v b) list.header.tree_depth b 0 list.records nothing_read
-            (same_on_before (λ c h. or_right _ _ h) (rw (has, sound) at same))
-            (rw (has, sound) at none))
-      ]
+      | inl has ↦
+          let seen : SameOn (extents v b).seen v at = same_on_before (λ c h. or_right _ _ h) same in
+          rw (same_has_list v at b here, has)
+          (ap (λ m. read_list (over v at) m b 0xc0 (most_in_dinode v)) (same_flags v at b here)
+          ∙ list_same v at (most_flags v b) b 0xc0 (most_in_dinode v) here (rw has at seen) (rw has at none))
     ]
 
 -- ---- the plain recursion

@@ -15,6 +15,7 @@ use Rattle.o2_model.specs.Checks.RefCount.{has_sound_count, ref_count_faults_of,
 use Rattle.o2_model.specs.Checks.RefUsers.{ref_users_faults}
 use Rattle.o2_model.specs.Failing.{faults, failing}
 use Rattle.o2_model.specs.Agrees.{AgreesOnOwned}
+use Rattle.o2_model.proofs.Members.{contains_filter}
 use Rattle.o2_model.proofs.Agreeing.{flat_map_agree, filter_agree_on, fails_agree}
 use Rattle.o2_model.proofs.OwnedTables.{owned_tell_inodes}
 use Rattle.o2_model.proofs.BlockNames.{refcount_block_same}
@@ -22,7 +23,6 @@ use Rattle.o2_model.proofs.RootsKeep.{listed_dinode_same, owned_tell_roots, owne
 use Rattle.o2_model.proofs.RefcountsKeep.{root_same, owned_tell_leaf_list, owned_tell_refcounts}
 use Rattle.o2_model.proofs.MetadataKeeps.{owned_tell_records}
 use Rattle.o2_model.proofs.SharingKeeps.{owned_tell_references}
-use Rattle.o2_model.proofs.Found.{contains_filter}
 use Rattle.o2_model.proofs.OwnedTells.{listed_is_inode}
 
 -- ---- the roots that are refcount blocks

@@ -17,8 +17,8 @@ use Rattle.o2_model.specs.Owned.{is_owned}
 use Rattle.o2_model.specs.Agrees.{AgreesOnOwned}
 use Rattle.o2_model.proofs.NothingFails.{no_check_fails}
 use Rattle.o2_model.proofs.Found.{append_nothing, each_of, contains_first, contains_later}
+use Rattle.o2_model.proofs.Members.{contains_one, contains_flat, contains_among, among_contains}
 use Rattle.o2_model.proofs.Agreeing.{fold_agree}
-use Rattle.o2_model.proofs.Members.{contains_flat, contains_one, contains_among, among_contains}
 use Rattle.o2_model.proofs.BitsOwned.{metadata_owned}
 use Rattle.o2_model.proofs.SystemOwned.{holds_unless}
 use Rattle.o2_model.proofs.OwnedTells.{each_nothing, metadata_holds}

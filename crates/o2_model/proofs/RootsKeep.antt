@@ -8,10 +8,10 @@ use Rattle.o2_model.specs.Groups.{inodes_of}
 use Rattle.o2_model.specs.RefcountTrees.{has_refcount, refcount_roots, inodes_of_tree}
 use Rattle.o2_model.specs.Failing.{failing}
 use Rattle.o2_model.specs.Agrees.{AgreesOnOwned}
+use Rattle.o2_model.proofs.Members.{contains_filter}
 use Rattle.o2_model.proofs.Agreeing.{map_agree, filter_agree_on}
 use Rattle.o2_model.proofs.OwnedTells.{dinode_same, listed_is_inode}
 use Rattle.o2_model.proofs.OwnedTables.{owned_tell_inodes}
-use Rattle.o2_model.proofs.Found.{contains_filter}
 
 pub listed_dinode_same : (v : Volume) (at : ℕ → List ℕ) (b : ℕ) → AgreesOnOwned v at → Contains (inodes_of v) b → at b ≡ v.at b
 listed_dinode_same v at b agrees is = dinode_same v at b agrees (listed_is_inode v b is)

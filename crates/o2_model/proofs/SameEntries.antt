@@ -29,6 +29,7 @@ records_same v at limit (r ∷ rs) same =
     let rest = records_same v at limit rs (record { same = λ b h. same.same b (parts b ∙ or_right _ _ h) }) in
     ap (λ bs. bs ++ flat_map (mapped (over v at) limit) rs) here ∙ ap (λ bs. mapped v limit r ++ bs) rest
 
+-- the blocks of a directory, each with its entries
 pub dir_blocks_same : (v : Volume) (at : ℕ → List ℕ) (d : ℕ) → at d ≡ v.at d → extents (over v at) d ≡ extents v d → SameOn (places (dir_blocks v d)) v at → dir_blocks (over v at) d ≡ dir_blocks v d
 unfolding dir_blocks
 dir_blocks_same v at d inode list same = elim (cases_Bool (is_inline v d)) [

@@ -7,7 +7,8 @@ use Rattle.o2_model.specs.Inodes.{is_directory}
 use Rattle.o2_model.specs.Directories.{Entry, named_entries}
 use Rattle.o2_model.specs.Groups.{is_inode}
 use Rattle.o2_model.specs.Tree.{Entered, TreeWalk, names_users, followed, follow, look_through, walk_after, tree_walk}
-use Rattle.o2_model.proofs.Found.{contains_filter, all_get}
+use Rattle.o2_model.proofs.Found.{all_get}
+use Rattle.o2_model.proofs.Members.{contains_filter}
 use Rattle.o2_model.proofs.Agreeing.{fold_agree}
 use Rattle.o2_model.proofs.TreeWalks.{StaysGood, walk_good, users_inode}
 

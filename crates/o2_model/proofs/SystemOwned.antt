@@ -220,17 +220,17 @@ journal_of_slot v b h =
     (sym (any_flat (λ m. b == m) (λ slot. option_map_or (λ c. c ∷ []) (named_journal v slot) []) (slots v)) ∙ h) in
     record { slot = s.item; named = of_option b (named_journal v s.item) s.passes }
 
+pub journal_is_inode : (v : Volume) (b : ℕ) → failing v ≡ [] → among (journals v) b ≡ true → is_inode v b ≡ true
+journal_is_inode v b none h =
+    let journal = journal_of_slot v b h in
+    file_is_inode v (OfSlot Journal journal.slot) b none journal.named
+
 journal_listed : (v : Volume) (b : ℕ) → failing v ≡ [] → among (journals v) b ≡ true → is_file v b ≡ true
 journal_listed v b none h =
     let journal = journal_of_slot v b h in
     journal_is_file v journal.slot b none journal.named
 
 -- a journal is an inode
-pub journal_is_inode : (v : Volume) (b : ℕ) → failing v ≡ [] → among (journals v) b ≡ true → is_inode v b ≡ true
-journal_is_inode v b none h =
-    let journal = journal_of_slot v b h in
-    file_is_inode v (OfSlot Journal journal.slot) b none journal.named
-
 -- what is not the volume's own is no journal
 pub users_apart : (v : Volume) (b : ℕ) → failing v ≡ [] → among (own_inodes v) b ≡ false → among (journals v) b ≡ false
 users_apart v b none other = elim (cases_Bool (among (journals v) b)) [

@@ -17,7 +17,8 @@ use Rattle.o2_model.specs.Checks.DirDots.{not_once, dot_faults}
 use Rattle.o2_model.specs.Checks.DirentType.{has_type_of_inode}
 use Rattle.o2_model.specs.Failing.{faults, failing}
 use Rattle.o2_model.specs.Agrees.{AgreesOnOwned}
-use Rattle.o2_model.proofs.Found.{contains_filter, each_of}
+use Rattle.o2_model.proofs.Found.{each_of}
+use Rattle.o2_model.proofs.Members.{contains_filter}
 use Rattle.o2_model.proofs.Agreeing.{flat_map_agree, fails_agree}
 use Rattle.o2_model.proofs.SameContents.{kind_same}
 use Rattle.o2_model.proofs.OwnedTells.{dinode_same}

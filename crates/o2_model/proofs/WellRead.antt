@@ -9,7 +9,7 @@ use Rattle.o2_ondisk.specs.declared.extent_rec.ExtentRec.{ExtentRec}
 use Rattle.o2_model.specs.Words.{push}
 use Rattle.o2_model.specs.Volume.{Volume, per_cluster}
 use Rattle.o2_model.specs.Clusters.{are_clusters_in_range}
-use Rattle.o2_model.specs.Extents.{Extents, leaf_clusters, list_in_block, with_leaf, with_seen, with_fault, end_of, is_sound_header, is_extent_block, is_sound_leaf, names_new_block, most_in_block, with_met, records_in_block, read_records, nothing_read, extent_list}
+use Rattle.o2_model.specs.Extents.{Extents, leaf_clusters, list_in_block, with_leaf, with_seen, with_fault, end_of, is_sound_header, is_extent_block, is_sound_leaf, names_new_block, most_in_block, with_met, records_in_block, read_records, read_list, nothing_read, extent_list}
 use Rattle.o2_model.specs.Inodes.{extents, has_list, most_flags, most_in_dinode, extent_lists_of, leaf_records, records_of, extent_blocks_of}
 use Rattle.o2_model.proofs.Readings.{push_some}
 
@@ -29,7 +29,7 @@ push_leaf : (v : Volume) (rs : List ExtentRec) (r : ExtentRec) → AllByRecursio
 push_leaf v [] r all is = (is, tt)
 push_leaf v (x ∷ xs) r all is = (all.0, push_leaf v xs r all.1 is)
 
-well_none : (v : Volume) → IsWellRead v nothing_read
+pub well_none : (v : Volume) → IsWellRead v nothing_read
 well_none v = record { seen = λ h. refl; leaves = tt }
 
 well_leaf : (v : Volume) (t : Extents) (r : ExtentRec) → BeginsCluster v r → IsWellRead v t → IsWellRead v (with_leaf t r)
@@ -70,17 +70,20 @@ reading_well v m (suc depth) holder low (r ∷ rs) t h =
       ]
     ]
 
+pub list_well : (v : Volume) (m holder place most : ℕ) → IsWellRead v (read_list v m holder place most)
+list_well v m holder place most =
+    let list = extent_list place (v.at holder) in
+    elim (cases_Bool (is_sound_header most list.header)) [
+      | inr bad ↦ rw bad (well_fault v nothing_read holder (well_none v))
+      | inl sound ↦ rw sound (reading_well v m list.header.tree_depth holder 0 list.records nothing_read (well_none v))
+    ]
+
 pub extents_well : (v : Volume) (b : ℕ) → IsWellRead v (extents v b)
 unfolding extents
-extents_well v b =
-    let list = extent_list 0xc0 (v.at b) in
-    elim (cases_Bool (has_list v b)) [
-      | inr none ↦ rw none (well_none v)
-      | inl has ↦ elim (cases_Bool (is_sound_header (most_in_dinode v) list.header)) [
-        | inr bad ↦ rw (has, bad) (well_fault v nothing_read b (well_none v))
-        | inl sound ↦ rw (has, sound) (reading_well v (most_flags v b) list.header.tree_depth b 0 list.records nothing_read (well_none v))
-      ]
-    ]
+extents_well v b = elim (cases_Bool (has_list v b)) [
+  | inr none ↦ rw none (well_none v)
+  | inl has ↦ rw has (list_well v (most_flags v b) b 0xc0 (most_in_dinode v))
+]
 
 -- ---- an inode has one list
 no_list : (v : Volume) (b : ℕ) → has_list v b ≡ false → extents v b ≡ nothing_read
