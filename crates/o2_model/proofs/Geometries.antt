@@ -20,7 +20,7 @@ tells_bits : (I : Image) (bits : ℕ) → has_super I bits ≡ true → (geometr
 unfolding has_super
 tells_bits I bits has = grind (arith, nat_tests)
 
-found_bits : (I : Image) (bits : ℕ) → superblock_bits I ≡ Some bits → (geometry_at I bits).block_bits ≡ bits
+pub found_bits : (I : Image) (bits : ℕ) → superblock_bits I ≡ Some bits → (geometry_at I bits).block_bits ≡ bits
 unfolding superblock_bits
 found_bits I bits found = tells_bits I bits (found_passes (has_super I) block_sizes bits found)
 

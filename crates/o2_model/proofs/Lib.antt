@@ -63,3 +63,5 @@ pub mod DxKeeps
 pub mod SlotPartsKeep
 pub mod AllocBitsKeep
 pub mod DupClustersKeeps
+pub mod OwnedChecks
+pub mod ConsistentImages

@@ -1,6 +1,7 @@
 //! What a volume is: the definitions over whole images that every contract above cites, and their laws.
 #![tactic(auto)]
 
+mod alike_laws;
 mod allocator;
 mod case_laws;
 mod check;
@@ -20,6 +21,10 @@ mod replay_laws;
 mod system_file;
 mod walk_laws;
 
+pub use alike_laws::{
+    images_alike_are_consistent, owned_blocks_tell_checks, owned_blocks_tell_claims,
+    owned_blocks_tell_contents,
+};
 pub use allocator::{Allocator, BitUse, Group};
 pub use case_laws::{
     bits_on_cases, hashes_on_cases, names_on_cases, orders_on_cases, revokes_on_cases,
