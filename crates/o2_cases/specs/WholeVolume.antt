@@ -21,7 +21,7 @@ use Rattle.o2_cases.specs.WholeInodes.{plain_dinode, dinode_with, own_dinode, al
 -- the superblock: its dinode, the sizes, the first group, and the seed of hashes
 abbrev pub whole_super : List ℕ
 whole_super =
-    put_at 0xdc 4 0x1550
+    put_at 0xe0 4 0x1550
     (put_at 0xe8 8 18
     (put_at 0xf0 8 17
     (put_at 0xf8 4 9
