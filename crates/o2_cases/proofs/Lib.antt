@@ -1,6 +1,5 @@
-pub mod VolumesOfImages
 pub mod Fullness
-pub mod WholeVolumes
+pub mod VolumesOfImages
 pub mod OneWriteReplays
 pub mod OneWriteStops
 pub mod RecoverableImages

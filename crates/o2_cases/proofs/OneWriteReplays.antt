@@ -1,35 +1,33 @@
 -- The replay of an image whose one dirty journal has a log of one write.
-use Rattle.std.proofs.Common.{◌≡◌, ◌≢◌, inl, inr, ℕ, ◌<◌, List, [], ◌∷◌, length, sym, ◌∙◌, ap, subst, arith, Some}
+use Rattle.std.proofs.Common.{◌≡◌, ◌≢◌, inl, inr, ℕ, ◌<◌, List, length, sym, ◌∙◌, ap, subst, arith}
 use Rattle.std.specs.Prelude.{fold}
 use Rattle.std.specs.Option.{option_map_or}
 use Rattle.std.proofs.lemmas.Bool.{cases_eq}
 use Rattle.o2_disk.specs.Image.{Image, sector, written, block_at}
 use Rattle.o2_disk.proofs.Images.{same_image, length-written, read_back, other_one, bytes_from-same}
-use Rattle.o2_model.specs.Dirty.{dirty_slots, committed_writes, slot_journal}
+use Rattle.o2_model.specs.Dirty.{slot_journal}
 use Rattle.o2_model.specs.Logs.{LoggedBlock}
 use Rattle.o2_model.specs.Replay.{as_clean, first_sector, with_block, with_clean_journal, replay_slot, replay_all, replayed}
 use Rattle.o2_cases.specs.WholeVolume.{on_device, volume_with}
-use Rattle.o2_cases.specs.WholeImages.{image_with}
-use Rattle.o2_cases.proofs.VolumesOfImages.{IsVolume, length-image_with, sector-image_with, block_at-image_with, opened-image_with}
+use Rattle.o2_cases.specs.WholeImages.{HasOneWrite, IsVolume, image_with}
+use Rattle.o2_cases.proofs.Fullness.{full_blocks}
+use Rattle.o2_cases.proofs.VolumesOfImages.{length-image_with, sector-image_with, block_at-image_with, opened-image_with}
 
--- The blocks, those after the replay, and what is told of the log: its slot, the journal's dinode, and the block that it writes.
-pub record IsReplayed (blocks after : ℕ → List ℕ) (slot journal target : ℕ) : Type 0 where
+-- The blocks and those after the replay: the journal's dinode and one other block are all that changes.
+pub record IsReplayed (blocks after : ℕ → List ℕ) (journal target : ℕ) : Type 0 where
   pub before : IsVolume blocks
   pub later : IsVolume after
+  pub one : HasOneWrite blocks after journal target
   pub journal_there : journal < 128
   pub target_there : target < 128
   pub apart : journal ≢ target
-  pub slots : dirty_slots (volume_with blocks) ≡ slot ∷ []
-  pub writes : committed_writes (volume_with blocks) slot ≡ record { block = target; bytes = on_device after target } ∷ []
-  pub named : slot_journal (volume_with blocks) slot ≡ Some journal
-  pub cleaned : as_clean (on_device blocks journal) ≡ on_device after journal
   pub others : (s : ℕ) → s ≢ journal → s ≢ target → on_device after s ≡ on_device blocks s
 
 -- the first sector of a block
 pub sector-is : (b : ℕ) → first_sector 512 b ≡ b
 sector-is b = omega arith
 
-module _ (blocks after : ℕ → List ℕ) (slot journal target : ℕ) (is : IsReplayed blocks after slot journal target) where
+module _ (blocks after : ℕ → List ℕ) (journal target : ℕ) (is : IsReplayed blocks after journal target) where
   -- the write is put
   put : Image
   put = written (image_with blocks) target (on_device after target)
@@ -38,10 +36,10 @@ module _ (blocks after : ℕ → List ℕ) (slot journal target : ℕ) (is : IsR
   cleaned_image = written put journal (on_device after journal)
 
   full_target : length (on_device after target) ≡ 512
-  full_target = is.later.full target is.target_there
+  full_target = full_blocks after is.later.full target is.target_there
 
   full_journal : length (on_device after journal) ≡ 512
-  full_journal = is.later.full journal is.journal_there
+  full_journal = full_blocks after is.later.full journal is.journal_there
 
   length-put : length put ≡ 128
   unfolding put
@@ -83,19 +81,19 @@ module _ (blocks after : ℕ → List ℕ) (slot journal target : ℕ) (is : IsR
   unfolding cleaned_image
   clean-is =
       ap (λ at. written put at (as_clean (block_at 512 put journal))) (sector-is journal)
-      ∙ ap (written put journal) (ap as_clean journal_read ∙ is.cleaned)
+      ∙ ap (written put journal) (ap as_clean journal_read ∙ is.one.cleaned)
 
-  slot_replayed : replay_slot (volume_with blocks) (image_with blocks) slot ≡ cleaned_image
+  slot_replayed : replay_slot (volume_with blocks) (image_with blocks) 0 ≡ cleaned_image
   slot_replayed =
       let v = volume_with blocks in
-      ap (λ (ws : List LoggedBlock). let J = fold (with_block 512) (image_with blocks) ws in option_map_or (with_clean_journal 512 J) (slot_journal v slot) J) is.writes
-      ∙ (ap (λ J. option_map_or (with_clean_journal 512 J) (slot_journal v slot) J) put-is
-      ∙ (ap (λ o. option_map_or (with_clean_journal 512 put) o put) is.named ∙ clean-is))
+      ap (λ (ws : List LoggedBlock). let J = fold (with_block 512) (image_with blocks) ws in option_map_or (with_clean_journal 512 J) (slot_journal v 0) J) is.one.writes
+      ∙ (ap (λ J. option_map_or (with_clean_journal 512 J) (slot_journal v 0) J) put-is
+      ∙ (ap (λ o. option_map_or (with_clean_journal 512 put) o put) is.one.named ∙ clean-is))
 
   -- The replay leaves the blocks of after.
   pub replayed-is : replayed (image_with blocks) ≡ image_with after
   unfolding replayed
   replayed-is =
       ap (λ o. option_map_or (replay_all (image_with blocks)) o (image_with blocks)) (opened-image_with blocks is.before)
-      ∙ (ap (fold (replay_slot (volume_with blocks)) (image_with blocks)) is.slots
+      ∙ (ap (fold (replay_slot (volume_with blocks)) (image_with blocks)) is.one.slots
       ∙ (slot_replayed ∙ cleaned-is))

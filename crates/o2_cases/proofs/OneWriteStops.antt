@@ -14,6 +14,7 @@ use Rattle.o2_model.specs.Logs.{LoggedBlock}
 use Rattle.o2_model.specs.Replay.{first_sector, puts_sector, may_put, dirty_journals, IsTornReplay, IsPartialReplay}
 use Rattle.o2_cases.specs.WholeVolume.{on_device, volume_with}
 use Rattle.o2_cases.specs.WholeImages.{image_with}
+use Rattle.o2_cases.proofs.Fullness.{full_blocks}
 use Rattle.o2_cases.proofs.VolumesOfImages.{length-image_with, sector-image_with, opened-image_with}
 use Rattle.o2_cases.proofs.OneWriteReplays.{IsReplayed, sector-is}
 
@@ -41,15 +42,15 @@ puts target s bytes new full at same =
     let equal = (bytes_eq-Decides new (piece bytes (s - first_sector 512 target))).1 (same ∙ sym (ap (piece bytes) none ∙ whole_piece bytes full)) in
     rw (low, high, equal) refl
 
-module _ (blocks after : ℕ → List ℕ) (slot journal target : ℕ) (is : IsReplayed blocks after slot journal target) where
+module _ (blocks after : ℕ → List ℕ) (journal target : ℕ) (is : IsReplayed blocks after journal target) where
   all_writes : all_committed_writes (volume_with blocks) ≡ record { block = target; bytes = on_device after target } ∷ []
   unfolding all_committed_writes
-  all_writes = ap (flat_map (committed_writes (volume_with blocks))) is.slots ∙ ap (λ (ws : List LoggedBlock). ws ++ []) is.writes
+  all_writes = ap (flat_map (committed_writes (volume_with blocks))) is.one.slots ∙ ap (λ (ws : List LoggedBlock). ws ++ []) is.one.writes
 
   may_be : (s : ℕ) (new : List ℕ) → may_put (volume_with blocks) s new ≡ true → (s ≡ target) × (new ≡ on_device after target)
   may_be s new h =
       let one = sym (ap (list_any (puts_sector 512 s new)) all_writes) ∙ h in
-      ⊎_elim (λ put. put_there target s (on_device after target) new (is.later.full target is.target_there) put) (λ none. absurd (false≢true none))
+      ⊎_elim (λ put. put_there target s (on_device after target) new (full_blocks after is.later.full target is.target_there) put) (λ none. absurd (false≢true none))
       (or_cases (puts_sector 512 s new (record { block = target; bytes = on_device after target })) false one)
 
   -- each sector of a torn replay
@@ -90,7 +91,7 @@ module _ (blocks after : ℕ → List ℕ) (slot journal target : ℕ) (is : IsR
     written_put : (s : ℕ) (new : List ℕ) → s ≡ target → new ≡ on_device after target → may_put (volume_with blocks) s new ≡ true
     written_put s new at write =
         ap (list_any (puts_sector 512 s new)) all_writes
-        ∙ or_left _ _ (puts target s (on_device after target) new (is.later.full target is.target_there) at write)
+        ∙ or_left _ _ (puts target s (on_device after target) new (full_blocks after is.later.full target is.target_there) at write)
 
     each_put : (s : ℕ) → s < length (image_with blocks) → (sector (image_with stopped) s ≡ sector (image_with blocks) s) ⊎ (may_put (volume_with blocks) s (sector (image_with stopped) s) ≡ true)
     each_put s low =
@@ -103,8 +104,8 @@ module _ (blocks after : ℕ → List ℕ) (slot journal target : ℕ) (is : IsR
 
     one_journal : dirty_journals (volume_with blocks) ≡ journal ∷ []
     one_journal =
-        ap (flat_map (λ s. option_map_or (λ b. b ∷ []) (slot_journal (volume_with blocks) s) [])) is.slots
-        ∙ ap (λ (o : Option ℕ). option_map_or (λ b. b ∷ []) o [] ++ []) is.named
+        ap (flat_map (λ s. option_map_or (λ b. b ∷ []) (slot_journal (volume_with blocks) s) [])) is.one.slots
+        ∙ ap (λ (o : Option ℕ). option_map_or (λ b. b ∷ []) o [] ++ []) is.one.named
 
     journal_kept : (b : ℕ) → among (dirty_journals (volume_with blocks)) b ≡ true → block_at 512 (image_with stopped) b ≡ block_at 512 (image_with blocks) b
     journal_kept b dirty =

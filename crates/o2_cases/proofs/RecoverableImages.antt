@@ -1,67 +1,86 @@
 -- The image with a dirty journal is recoverable, and the one whose log harms the system directory is not replay-stable.
-use Rattle.std.proofs.Common.{◌≡◌, ◌⊎◌, ⊎_elim, ℕ, Bool, true, false, ◌&&◌, not, nat_eq, List, [], ◌∷◌, codes, refl, sym, ◌∙◌, subst, arith, Some, None}
+use Rattle.std.proofs.Common.{◌≡◌, ◌≢◌, ◌⊎◌, ⊎_elim, ℕ, Bool, true, false, ◌&&◌, not, nat_eq, List, [], ◌∷◌, refl, sym, ◌∙◌, ap, subst, arith, Some, None}
+use Rattle.std.specs.Option.{option_map}
 use Rattle.std.specs.List.{list_all, AllByRecursion, IsDistinct}
-use Rattle.std.proofs.lemmas.Bool.{and_parts}
+use Rattle.std.proofs.lemmas.Bool.{and_parts, ne_eqb}
 use Rattle.o2_disk.specs.Image.{Image}
 use Rattle.o2_model.specs.Anchors.{log_fault}
-use Rattle.o2_model.specs.Consistent.{IsConsistent, failing_checks}
-use Rattle.o2_model.specs.Replay.{replayed, IsPartialReplay, IsReplayable, IsReplayStable, IsRecoverable}
-use Rattle.o2_model.specs.declared.check.Check.TheVariants as check
+use Rattle.o2_model.specs.Consistent.{IsConsistent, HasSoundSkeleton, failing_checks}
+use Rattle.o2_model.specs.Volume.{Volume, opened}
+use Rattle.o2_model.specs.Failing.{failing, pairs, skeleton}
+use Rattle.o2_model.specs.Replay.{replayed, IsPartialReplay, IsReplayable, IsReplayStable}
+use Rattle.o2_model.specs.Structures.{unsupported_structure}
+use Rattle.o2_model.specs.declared.check.Check.{Check}
 use Rattle.o2_model.proofs.Replays.{partial_self, stable_self}
-use Rattle.o2_cases.specs.DirtyVolume.{logging_block, replayed_block, stopped_block}
-use Rattle.o2_cases.specs.WholeVolume.{volume_with, whole, whole_block}
-use Rattle.o2_cases.specs.WholeImages.{image_with, whole_image, dirty_image, replayed_image, stopped_image, harmful_image}
-use Rattle.o2_cases.proofs.VolumesOfImages.{IsVolume, opened-image_with, supported-image_with}
+use Rattle.o2_cases.specs.WholeVolume.{on_device, volume_with}
+use Rattle.o2_cases.specs.WholeImages.{CanBeReplayed, HasOneWrite, IsVolume, image_with, dirty_blocks, clean_blocks, stopped_blocks, dirty_image, replayed_image, stopped_image}
+use Rattle.o2_cases.proofs.VolumesOfImages.{opened-image_with, supported-image_with}
 use Rattle.o2_cases.proofs.OneWriteReplays.{IsReplayed, replayed-is}
 use Rattle.o2_cases.proofs.OneWriteStops.{partial_is, partial_of}
-use Rattle.o2_cases.proofs.WholeVolumes.{whole_is, dirty_is, replayed_is, stopped_is, harmful_is, whole_fails, whole_structures, dirty_fails, replayed_fails, replayed_structures, dirty_slots-are, dirty_writes, dirty_journal, cleaned, stopped_write, other_replayed, other_stopped, CanBeReplayed, dirty_can, stopped_can, harmful_fault}
 
 -- ---- consistent images
-pub whole_consistent : IsConsistent whole_image
-whole_consistent = record {
-  volume = whole;
-  is_opened = opened-image_with whole_block whole_is;
-  supported_features = supported-image_with whole_block whole_is;
-  supported_structures = whole_structures;
-  none_fails = whole_fails;
+pub consistent_of : (blocks : ℕ → List ℕ) → IsVolume blocks → failing (volume_with blocks) ≡ [] → unsupported_structure (volume_with blocks) ≡ None → IsConsistent (image_with blocks)
+consistent_of blocks is none supported = record {
+  volume = volume_with blocks;
+  is_opened = opened-image_with blocks is;
+  supported_features = supported-image_with blocks is;
+  supported_structures = supported;
+  none_fails = none;
 }
 
-replayed_consistent : IsConsistent replayed_image
-replayed_consistent = record {
-  volume = volume_with (replayed_block 88 (codes "world"));
-  is_opened = opened-image_with (replayed_block 88 (codes "world")) replayed_is;
-  supported_features = supported-image_with (replayed_block 88 (codes "world")) replayed_is;
-  supported_structures = replayed_structures;
-  none_fails = replayed_fails;
-}
+pub failing_of : (blocks : ℕ → List ℕ) → IsVolume blocks → failing_checks (image_with blocks) ≡ failing (volume_with blocks)
+failing_of blocks is = rw (opened-image_with blocks is) refl
 
-pub dirty_failing : failing_checks dirty_image ≡ (check.JournalDirty, 25) ∷ []
-dirty_failing = rw (opened-image_with (logging_block 88 (codes "world")) dirty_is) dirty_fails
+one_and_none : {A : Type 0} (x : A) → x ∷ [] ≡ [] → ⊥
+one_and_none x e = cc
+
+-- where one thing fails, the image is not consistent
+pub not_consistent : (I : Image) (pair : Check × ℕ) → failing_checks I ≡ pair ∷ [] → IsConsistent I → ⊥
+not_consistent I pair fails h = one_and_none pair (sym fails ∙ nothing_fails)
+  where
+    nothing_fails : failing_checks I ≡ []
+    nothing_fails = rw h.is_opened h.none_fails
 
 -- ---- the replay
-dirty_replays : IsReplayed (logging_block 88 (codes "world")) (replayed_block 88 (codes "world")) 0 25 88
-dirty_replays = record {
-  before = dirty_is;
-  later = replayed_is;
+other_replayed : (s : ℕ) → s ≢ 25 → s ≢ 88 → on_device clean_blocks s ≡ on_device dirty_blocks s
+unfolding on_device
+other_replayed s a b = rw (ne_eqb s 25 a, ne_eqb s 88 b) refl
+
+other_stopped : (s : ℕ) → s ≢ 88 → on_device stopped_blocks s ≡ on_device dirty_blocks s
+unfolding on_device
+other_stopped s b = rw (ne_eqb s 88 b) refl
+
+dirty_replays : IsVolume dirty_blocks → IsVolume clean_blocks → HasOneWrite dirty_blocks clean_blocks 25 88 → IsReplayed dirty_blocks clean_blocks 25 88
+dirty_replays before later one = record {
+  before = before;
+  later = later;
+  one = one;
   journal_there = omega arith;
   target_there = omega arith;
   apart = λ e. omega (arith, e);
-  slots = dirty_slots-are;
-  writes = dirty_writes;
-  named = dirty_journal;
-  cleaned = cleaned;
   others = other_replayed;
 }
 
-pub dirty_replayed : replayed dirty_image ≡ replayed_image
-dirty_replayed = replayed-is (logging_block 88 (codes "world")) (replayed_block 88 (codes "world")) 0 25 88 dirty_replays
+pub dirty_replayed : IsVolume dirty_blocks → IsVolume clean_blocks → HasOneWrite dirty_blocks clean_blocks 25 88 → replayed dirty_image ≡ replayed_image
+dirty_replayed before later one = replayed-is dirty_blocks clean_blocks 25 88 (dirty_replays before later one)
 
-pub dirty_consistent : IsConsistent (replayed dirty_image)
-dirty_consistent = subst IsConsistent (sym dirty_replayed) replayed_consistent
+-- what is found of the volume after the replay
+pub found_after : {A : Type 0} (f : Volume → A) → IsVolume clean_blocks → replayed dirty_image ≡ replayed_image → option_map f (opened (replayed dirty_image)) ≡ Some (f (volume_with clean_blocks))
+found_after f later is = ap (λ I. option_map f (opened I)) is ∙ ap (option_map f) (opened-image_with clean_blocks later)
+
+pub skeleton_of : (blocks : ℕ → List ℕ) → IsVolume blocks → pairs (volume_with blocks) skeleton ≡ [] → HasSoundSkeleton (image_with blocks)
+skeleton_of blocks is none = record { volume = volume_with blocks; is_opened = opened-image_with blocks is; none_fails = none }
 
 -- ---- where it is stopped
-pub dirty_partial : (V : Image) → IsPartialReplay dirty_image V → (V ≡ dirty_image) ⊎ (V ≡ stopped_image)
-dirty_partial = partial_is (logging_block 88 (codes "world")) (replayed_block 88 (codes "world")) 0 25 88 dirty_replays (stopped_block 88 (codes "world")) stopped_write other_stopped
+pub dirty_itself : IsVolume dirty_blocks → IsPartialReplay dirty_image dirty_image
+dirty_itself is = partial_self dirty_image (volume_with dirty_blocks) (opened-image_with dirty_blocks is)
+
+module _ (before : IsVolume dirty_blocks) (later : IsVolume clean_blocks) (one : HasOneWrite dirty_blocks clean_blocks 25 88) (put : on_device stopped_blocks 88 ≡ on_device clean_blocks 88) where
+  pub dirty_partial : (V : Image) → IsPartialReplay dirty_image V → (V ≡ dirty_image) ⊎ (V ≡ stopped_image)
+  dirty_partial = partial_is dirty_blocks clean_blocks 25 88 (dirty_replays before later one) stopped_blocks put other_stopped
+
+  pub stopped_partial : IsPartialReplay dirty_image stopped_image
+  stopped_partial = partial_of dirty_blocks clean_blocks 25 88 (dirty_replays before later one) stopped_blocks put other_stopped
 
 -- a test that no number stands there twice
 abbrev are_distinct : List ℕ → Bool
@@ -81,9 +100,9 @@ unfolding IsDistinct
 distinct [] h = tt
 distinct (x ∷ xs) h = let parts = and_parts (list_all (λ y. not (nat_eq x y)) xs) _ h in (all_other x xs parts.0, distinct xs parts.1)
 
--- a volume on which a replay may be started is one in its image
-replayable : (blocks : ℕ → List ℕ) → IsVolume blocks → CanBeReplayed blocks → IsReplayable (volume_with (logging_block 88 (codes "world"))) (image_with blocks)
-replayable blocks is can = record {
+-- where a replay may be started again, with the same slots and journals
+replayable : (first blocks : ℕ → List ℕ) → IsVolume blocks → CanBeReplayed first → CanBeReplayed blocks → IsReplayable (volume_with first) (image_with blocks)
+replayable first blocks is before can = record {
   volume = volume_with blocks;
   is_opened = opened-image_with blocks is;
   supported = supported-image_with blocks is;
@@ -92,22 +111,21 @@ replayable blocks is can = record {
   no_journal_fault = can.no_journal_fault;
   no_log_fault = can.no_log_fault;
   anchors_apart = λ s dirty. subst (IsDistinct nat_eq) (sym can.anchors) (distinct _ refl);
-  same_slots = can.slots ∙ sym dirty_can.slots;
-  same_journals = can.journals ∙ sym dirty_can.journals;
+  same_slots = can.slots ∙ sym before.slots;
+  same_journals = can.journals ∙ sym before.journals;
 }
 
-pub dirty_stable : IsReplayStable dirty_image
-dirty_stable = record {
-  volume = volume_with (logging_block 88 (codes "world"));
-  is_opened = opened-image_with (logging_block 88 (codes "world")) dirty_is;
+-- an image is stable where each that a torn replay leaves is one of two
+pub stable_of_two : (old new : ℕ → List ℕ) → IsVolume old → IsVolume new → CanBeReplayed old → CanBeReplayed new
+    → ((V : Image) → IsPartialReplay (image_with old) V → (V ≡ image_with old) ⊎ (V ≡ image_with new)) → IsReplayStable (image_with old)
+stable_of_two old new is also can may two = record {
+  volume = volume_with old;
+  is_opened = opened-image_with old is;
   each = λ V part. ⊎_elim
-      (λ old. subst (IsReplayable (volume_with (logging_block 88 (codes "world")))) (sym old) (replayable (logging_block 88 (codes "world")) dirty_is dirty_can))
-      (λ new. subst (IsReplayable (volume_with (logging_block 88 (codes "world")))) (sym new) (replayable (stopped_block 88 (codes "world")) stopped_is stopped_can))
-      (dirty_partial V part);
+      (λ same. subst (IsReplayable (volume_with old)) (sym same) (replayable old old is can can))
+      (λ same. subst (IsReplayable (volume_with old)) (sym same) (replayable old new also can may))
+      (two V part);
 }
-
-pub dirty_recoverable : IsRecoverable dirty_image
-dirty_recoverable = record { stable = dirty_stable; consistent = dirty_consistent }
 
 -- ---- a log that does harm
 same_Some : {A : Type 0} (x y : A) → Some x ≡ Some y → x ≡ y
@@ -116,24 +134,9 @@ same_Some x y h = cc
 not_None : {A : Type 0} (x : A) → Some x ≡ None → ⊥
 not_None x h = cc
 
-pub harmful_not_stable : IsReplayStable harmful_image → ⊥
-harmful_not_stable h =
-    let can = stable_self harmful_image h in
-    let same = same_Some can.volume (volume_with (logging_block 17 [])) (sym can.is_opened ∙ opened-image_with (logging_block 17 []) harmful_is) in
-    not_None (0, 17) (sym harmful_fault ∙ subst (λ v. log_fault v ≡ None) same can.no_log_fault)
-
--- ---- a dirty image
-pub dirty_not_consistent : IsConsistent dirty_image → ⊥
-dirty_not_consistent h = one_and_none _ (sym dirty_failing ∙ nothing_fails dirty_image h)
-  where
-    one_and_none : {A : Type 0} (x : A) → x ∷ [] ≡ [] → ⊥
-    one_and_none x e = cc
-    nothing_fails : (I : Image) → IsConsistent I → failing_checks I ≡ []
-    nothing_fails I c = rw c.is_opened c.none_fails
-
--- the image itself and the stopped one are what a torn replay leaves
-pub dirty_itself : IsPartialReplay dirty_image dirty_image
-dirty_itself = partial_self dirty_image (volume_with (logging_block 88 (codes "world"))) (opened-image_with (logging_block 88 (codes "world")) dirty_is)
-
-pub stopped_partial : IsPartialReplay dirty_image stopped_image
-stopped_partial = partial_of (logging_block 88 (codes "world")) (replayed_block 88 (codes "world")) 0 25 88 dirty_replays (stopped_block 88 (codes "world")) stopped_write other_stopped
+-- an image whose log has a bad write is not stable
+pub not_stable : (blocks : ℕ → List ℕ) (fault : ℕ × ℕ) → IsVolume blocks → log_fault (volume_with blocks) ≡ Some fault → IsReplayStable (image_with blocks) → ⊥
+not_stable blocks fault is harm h =
+    let can = stable_self (image_with blocks) h in
+    let same = same_Some can.volume (volume_with blocks) (sym can.is_opened ∙ opened-image_with blocks is) in
+    not_None fault (sym harm ∙ subst (λ v. log_fault v ≡ None) same can.no_log_fault)

@@ -10,15 +10,8 @@ use Rattle.o2_model.specs.Geometry.{geometry_of}
 use Rattle.o2_model.specs.Superblock.{super_signature, has_super, superblock_bits}
 use Rattle.o2_model.specs.Volume.{volume_of, opened}
 use Rattle.o2_cases.specs.WholeVolume.{on_device, whole_geo, volume_with}
-use Rattle.o2_cases.specs.WholeImages.{image_with}
-
--- What is asked of the blocks: each has 512 bytes at most, and block 2 is the superblock of a volume of 16 clusters.
-pub record IsVolume (blocks : ℕ → List ℕ) : Type 0 where
-  pub full : (s : ℕ) → s < 128 → length (on_device blocks s) ≡ 512
-  pub signature : number_at 0x0 8 (on_device blocks 2) ≡ super_signature
-  pub bits : (super_of (drop 0xc0 (on_device blocks 2))).blocksize_bits ≡ 9
-  pub geometry : geometry_of (on_device blocks 2) ≡ whole_geo
-  pub supported : unsupported_in (super_of (drop 0xc0 (on_device blocks 2))) (number_at 0x14 4 (on_device blocks 2)) ≡ None
+use Rattle.o2_cases.specs.WholeImages.{IsVolume, image_with}
+use Rattle.o2_cases.proofs.Fullness.{full_blocks}
 
 -- ---- blocks
 pub length-image_with : (blocks : ℕ → List ℕ) → length (image_with blocks) ≡ 128
@@ -39,7 +32,7 @@ behind blocks b high = rw (le-ltb b 128 high) refl
 
 pub block_at-image_with : (blocks : ℕ → List ℕ) → IsVolume blocks → (b : ℕ) → block_at 512 (image_with blocks) b ≡ on_device blocks b
 block_at-image_with blocks is b = elim (cases_lt b 128) [
-  | inl low ↦ bytes_from-sector (image_with blocks) b (on_device blocks b) (is.full b low) (sector-image_with blocks b low)
+  | inl low ↦ bytes_from-sector (image_with blocks) b (on_device blocks b) (full_blocks blocks is.full b low) (sector-image_with blocks b low)
   | inr high ↦ bytes_from-same (image_with blocks) [] b (sector_past (image_with blocks) b (rw (length-image_with blocks) high)) ∙ (no_sector b ∙ sym (behind blocks b high))
 ]
 

@@ -1,5 +1,6 @@
 // What the definitions accept and what they refuse, each case the contract of a function that does nothing.
 pub mod allocator_checks;
+pub mod blocks_of_images;
 pub mod directory_checks;
 pub mod entries;
 pub mod extents;
@@ -12,3 +13,4 @@ pub mod skeleton_checks;
 pub mod slot_parts;
 pub mod superblocks;
 pub mod volumes;
+pub mod words;

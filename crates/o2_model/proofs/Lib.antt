@@ -6,6 +6,7 @@ pub mod Readings
 pub mod Looks
 pub mod TreeWalks
 pub mod TreeEnds
+pub mod FirstNames
 pub mod SameTree
 pub mod SameSuperblock
 pub mod SameGroups

@@ -1,13 +1,12 @@
 -- The files that a repair must not lose.
-use Rattle.std.specs.Prelude.{◌≡◌, ℕ, ◌+◌, Bool, true, false, ◌&&◌, ◌||◌, not, List, map, filter, length, take, Option, Some}
+use Rattle.std.specs.Prelude.{◌≡◌, ℕ, ◌+◌, Bool, true, false, ◌&&◌, ◌||◌, not, List, map, filter, length, take, Some}
 use Rattle.std.specs.List.{range_with_len, list_all}
 use Rattle.std.specs.Option.{option_map_or}
-use Rattle.std.specs.FinMap as finite
 use Rattle.o2_model.specs.Orders.{is_none_of}
 use Rattle.o2_model.specs.Volume.{Volume, dinode}
 use Rattle.o2_model.specs.Inodes.{kind, is_directory, is_file, is_link, extent_blocks_of}
 use Rattle.o2_model.specs.Contents.{content_of}
-use Rattle.o2_model.specs.Tree.{tree_walk, tree_of}
+use Rattle.o2_model.specs.Tree.{tree_walk, inode_at}
 use Rattle.o2_model.specs.Files.{attributes_of}
 use Rattle.o2_model.specs.Checks.InodeKind.{inode_kind_faults}
 use Rattle.o2_model.specs.Checks.Extent.{extent_faults}
@@ -51,10 +50,6 @@ is_intact_inode v b =
     && (not (has_refcounted v b) || has_sound_sharing v b)
 
 -- ---- intact paths
--- the inode at a path of the tree
-abbrev pub inode_at : Volume → List (List ℕ) → Option ℕ
-inode_at v path = finite.get (tree_of v) path
-
 -- the inode at the path and each directory on its way are intact
 unfoldable pub is_intact : Volume → List (List ℕ) → Bool
 is_intact v path = list_all (λ j. option_map_or (is_intact_inode v) (inode_at v (take j path)) false) (range_with_len 0 (length path + 1))

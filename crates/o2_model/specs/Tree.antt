@@ -1,5 +1,5 @@
 -- The walk of the tree: which directories it enters, and by which names.
-use Rattle.std.specs.Prelude.{ℕ, zero, suc, Bool, ◌&&◌, not, ◌==◌, List, [], ◌∷◌, map, flat_map, filter, fold, slice_get, count_by, if◌then◌else◌}
+use Rattle.std.specs.Prelude.{ℕ, zero, suc, Bool, ◌&&◌, not, ◌==◌, List, [], ◌∷◌, map, flat_map, filter, fold, slice_get, count_by, if◌then◌else◌, Option}
 use Rattle.std.specs.Option.{option_map_or}
 use Rattle.std.specs.Ordering.{nat_cmp}
 use Rattle.std.specs.Cmp.Lexicographic.{slice_cmp}
@@ -99,3 +99,7 @@ path_cmp p q = slice_cmp (slice_cmp nat_cmp) p q
 -- The inode at each path; of two equal paths the first counts.
 abbrev pub tree_of : Volume → finite.FinMap path_cmp ℕ
 tree_of v = finite.from_entries (tree_walk v).names
+
+-- The inode at a path: that of the first name that the walk met there.
+abbrev pub inode_at : Volume → List (List ℕ) → Option ℕ
+inode_at v path = finite.find path_cmp path (tree_walk v).names

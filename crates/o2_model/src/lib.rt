@@ -3,7 +3,6 @@
 
 mod alike_laws;
 mod allocator;
-mod case_laws;
 mod check;
 mod claim;
 mod entry_laws;
@@ -26,9 +25,6 @@ pub use alike_laws::{
     owned_blocks_tell_contents,
 };
 pub use allocator::{Allocator, BitUse, Group};
-pub use case_laws::{
-    bits_on_cases, hashes_on_cases, names_on_cases, orders_on_cases, revokes_on_cases,
-};
 pub use check::Check;
 pub use claim::{Claim, Owner};
 pub use entry_laws::entries_fill_their_bytes;
@@ -60,4 +56,5 @@ pub use replay_laws::{
 pub use system_file::{SlotFile, SystemFile};
 pub use walk_laws::{
     chains_end, no_directory_is_entered_twice, no_group_is_walked_twice, tree_walk_ends,
+    walk_tells_tree_and_files,
 };

@@ -1,10 +1,15 @@
 // The numbers of a superblock on single cases.
-ghost use Rattle.std.specs.Prelude.{◌≡◌, [], ◌∷◌, true, false};
+ghost use Rattle.std.specs.Prelude.{◌≡◌, [], ◌∷◌, true, false, drop, Some, None};
+ghost use Rattle.o2_ondisk.specs.Fields.{put_at};
+ghost use Rattle.o2_ondisk.specs.Super.{super_of};
+ghost use Rattle.o2_model.specs.declared.oddity.Oddity.TheVariants.{Clusters, HeartbeatDevice, InProgress, LocalMount, Metaecc, Quota, UnknownFeatures};
+ghost use Rattle.o2_model.specs.Features.{unsupported_in};
 ghost use Rattle.o2_model.specs.Clusters.{are_clusters_in_range};
 ghost use Rattle.o2_model.specs.ClusterGroups.{backup_clusters, group_count, group_index, group_place, group_size};
 ghost use Rattle.o2_model.specs.Checks.Super.{has_sound_directories, has_sound_first_group, has_sound_sizes};
 ghost use Rattle.o2_model.specs.Checks.BackupSuper.{backup_super_faults};
 ghost use Rattle.o2_cases.specs.BackupVolume.{with_backup};
+ghost use Rattle.o2_cases.specs.WholeVolume.{whole_super};
 ghost use Rattle.o2_cases.specs.SmallVolumes.{large, large_geo, small, small_geo, volume_with};
 
 /// A law: clusters have 4 KiB to 1 MiB, and there is a slot.
@@ -63,4 +68,17 @@ pub fn backups_on_cases()
     ensures own_block { backup_super_faults (with_backup 0x50 8 2097152) ≡ [] }
     ensures label { backup_super_faults (with_backup 0x110 1 0x76) ≡ 2097152 ∷ [] }
     ensures clusters { backup_super_faults (with_backup 0x14 4 17) ≡ 2097152 ∷ [] }
+{}
+
+/// A law: the first feature outside the profile is told, by the superblock's flags and its clusters.
+pub fn features_on_cases()
+    ensures supported { unsupported_in (super_of (drop 0xc0 whole_super)) 16 ≡ None }
+    ensures checksums { unsupported_in (super_of (drop 0xc0 (put_at 0xe0 4 0x1d50 whole_super))) 16 ≡ Some Metaecc }
+    ensures quotas { unsupported_in (super_of (drop 0xc0 (put_at 0xe4 4 0x2 whole_super))) 16 ≡ Some Quota }
+    ensures heartbeat { unsupported_in (super_of (drop 0xc0 (put_at 0xe0 4 0x1552 whole_super))) 16 ≡ Some HeartbeatDevice }
+    ensures local { unsupported_in (super_of (drop 0xc0 (put_at 0xe0 4 0x1558 whole_super))) 16 ≡ Some LocalMount }
+    ensures in_progress { unsupported_in (super_of (drop 0xc0 (put_at 0xe0 4 0x1554 whole_super))) 16 ≡ Some InProgress }
+    ensures unknown { unsupported_in (super_of (drop 0xc0 (put_at 0xe0 4 0x11550 whole_super))) 16 ≡ Some UnknownFeatures }
+    ensures two { unsupported_in (super_of (drop 0xc0 (put_at 0xe0 4 0x11d52 whole_super))) 16 ≡ Some Metaecc }
+    ensures clusters { unsupported_in (super_of (drop 0xc0 whole_super)) 0x4000_0001 ≡ Some Clusters }
 {}

@@ -1,6 +1,6 @@
 // What is read of a whole volume, and that nothing on it fails.
-ghost use Rattle.std.specs.Prelude.{◌≡◌, [], ◌∷◌, ◌++◌, Some, None, true, false, map, length, codes};
-ghost use Rattle.o2_model.specs.declared.oddity.Oddity.TheVariants.{Attributes, DioOrphan};
+ghost use Rattle.std.specs.Prelude.{◌≡◌, [], ◌∷◌, ◌++◌, Some, None, true, false, map, length, take, codes};
+ghost use Rattle.o2_model.specs.declared.oddity.Oddity.TheVariants.{Attributes, DioOrphan, DiscontiguousGroup};
 ghost use Rattle.o2_model.specs.declared.system_file.SlotFile.TheVariants.{Journal};
 ghost use Rattle.o2_model.specs.declared.system_file.SystemFile.TheVariants.{GlobalBitmap, Heartbeat, OfSlot};
 ghost use Rattle.o2_model.specs.declared.claim.Owner.TheVariants.{Inode, LocalAlloc, Suballocator, Super, TruncateLog};
@@ -10,7 +10,9 @@ ghost use Rattle.o2_model.specs.Groups.{group_walk, groups_of, inodes_of, is_ino
 ghost use Rattle.o2_model.specs.Inodes.{extent_blocks_of, records_of};
 ghost use Rattle.o2_model.specs.Contents.{content_of};
 ghost use Rattle.o2_model.specs.Contents.Content.{Bytes, Entries, Nothing};
-ghost use Rattle.o2_model.specs.Tree.{link_count, met_inodes, tree_directories, tree_walk};
+ghost use Rattle.o2_model.specs.Tree.{inode_at, is_met, link_count, met_inodes, tree_directories, tree_walk};
+ghost use Rattle.o2_model.specs.Intact.{intact_paths, is_intact};
+ghost use Rattle.o2_model.specs.AfterReplay.{volume_geometry};
 ghost use Rattle.o2_model.specs.Files.{links_of, shared_references};
 ghost use Rattle.o2_model.specs.Volume.{dinode};
 ghost use Rattle.o2_model.specs.RefcountTrees.{inodes_of_tree, refcount_roots, refcount_tree_blocks};
@@ -20,7 +22,7 @@ ghost use Rattle.o2_model.specs.Owned.{is_owned, owned_blocks};
 ghost use Rattle.o2_model.specs.Structures.{unsupported_structure};
 ghost use Rattle.o2_model.specs.Failing.{failing};
 ghost use Rattle.o2_cases.specs.SmallFiles.{record_of};
-ghost use Rattle.o2_cases.specs.WholeVolume.{whole, with_number};
+ghost use Rattle.o2_cases.specs.WholeVolume.{volume_with, whole, whole_block, with_number, with_number_at};
 
 /// A law: nothing fails on the whole volume, and it has no structure outside the profile.
 pub fn whole_volume_is_sound()
@@ -28,8 +30,11 @@ pub fn whole_volume_is_sound()
     ensures supported { unsupported_structure whole ≡ None }
 {}
 
-/// A law: an inode with attributes (HAS_XATTR), and an orphan of a direct write (DIO_ORPHANED), are outside the profile.
-pub fn odd_inodes_on_cases()
+/// A law: a group with a list of extents in use, an inode with attributes (HAS_XATTR), and an orphan of a direct write (DIO_ORPHANED)
+/// are outside the profile.
+pub fn odd_structures_on_cases()
+    ensures group { unsupported_structure (volume_with (with_number_at 16 0x8 2 256 (with_number_at 16 0x144 2 1 whole_block))) ≡ Some (DiscontiguousGroup, 16) }
+    ensures no_list { unsupported_structure (with_number 16 0x8 2 256) ≡ None }
     ensures attributes { unsupported_structure (with_number 30 0x76 2 0x12) ≡ Some (Attributes, 30) }
     ensures direct_write { unsupported_structure (with_number 32 0x2c 4 0x2005) ≡ Some (DioOrphan, 32) }
 {}
@@ -124,4 +129,32 @@ pub fn owned_blocks_of_whole()
     ensures window { is_owned whole 112 ≡ false }
     ensures free { is_owned whole 120 ≡ false }
     ensures count { length (owned_blocks whole) ≡ 97 }
+{}
+
+/// A law: the inode at a path is that of its names; an orphan is at none.
+pub fn paths_of_whole()
+    ensures root { inode_at whole [] ≡ Some 18 }
+    ensures deep { inode_at whole (codes "d" ∷ codes "h" ∷ []) ≡ Some 29 }
+    ensures absent { inode_at whole (codes "h" ∷ []) ≡ None }
+    ensures met { is_met whole 30 ≡ true }
+    ensures orphan { is_met whole 32 ≡ false }
+{}
+
+/// A law: a path is intact where its inode is, and each directory on the way. The file `f` has another name, `d/h`.
+pub fn intact_paths_on_cases()
+    ensures all { length (intact_paths whole) ≡ 7 }
+    ensures absent { is_intact whole (codes "h" ∷ []) ≡ false }
+    ensures overlap { is_intact (with_number 41 0x50 4 0) (codes "f" ∷ []) ≡ false }
+    ensures another { is_intact (with_number 41 0x50 4 0) (codes "a" ∷ []) ≡ true }
+    ensures on_the_way { is_intact (with_number 28 0x20 8 513) (codes "d" ∷ codes "h" ∷ []) ≡ false }
+    ensures by_its_other_name { is_intact (with_number 28 0x20 8 513) (codes "f" ∷ []) ≡ true }
+    ensures shared_badly { is_intact (with_number 42 0x98 4 2) (codes "a" ∷ []) ≡ false }
+{}
+
+/// A law: the numbers that a user may change are read of the superblock and of the journals.
+pub fn geometry_of_whole()
+    ensures slots { (volume_geometry whole).slots ≡ 1 }
+    ensures clusters { (volume_geometry whole).clusters ≡ 16 }
+    ensures journals { (volume_geometry whole).journals ≡ 1 ∷ [] }
+    ensures label { take 2 (volume_geometry (with_number 2 0x110 2 0x6176)).label ≡ codes "va" }
 {}

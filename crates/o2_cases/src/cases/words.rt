@@ -1,4 +1,4 @@
-// The definitions on single cases, each the contract of a function that does nothing.
+// Names, bits, numbers in order, revokes and hashes on single cases.
 ghost use Rattle.std.specs.Prelude.{◌≡◌, ◌==◌, ℕ, List, [], ◌∷◌, true, false, codes};
 ghost use Rattle.o2_ondisk.specs.declared.superblock.DxSeed.{DxSeed};
 ghost use Rattle.o2_model.specs.Orders.{later_like, rising};

@@ -1,0 +1,11 @@
+use Rattle.o2_model.proofs.FirstNames.{tree-first, files-met, sharing-counted}
+use Rattle.o2_model.proofs.walk_laws.walk_tells_tree_and_files.Goals as goal
+
+pub returns-clause-tree : goal.returns-clause-tree
+returns-clause-tree c = tree-first
+
+pub returns-clause-files : goal.returns-clause-files
+returns-clause-files c = files-met
+
+pub returns-clause-sharing : goal.returns-clause-sharing
+returns-clause-sharing c = sharing-counted
