@@ -112,7 +112,7 @@ module _ (blocks after : ℕ → List ℕ) (journal target : ℕ) (is : IsReplay
         let one = sym (ap (λ bs. among bs b) one_journal) ∙ dirty in
         let at : b ≡ journal = ⊎_elim (λ same. eqb-true b journal same) (λ none. absurd (false≢true none)) (or_cases (b == journal) false one) in
         let same : sector (image_with stopped) journal ≡ sector (image_with blocks) journal =
-            sector-image_with stopped journal is.journal_there ∙ (rest journal is.apart ∙ sym (sector-image_with blocks journal is.journal_there)) in
+        sector-image_with stopped journal is.journal_there ∙ (rest journal is.apart ∙ sym (sector-image_with blocks journal is.journal_there)) in
         bytes_from-same (image_with stopped) (image_with blocks) b (subst (λ n. sector (image_with stopped) n ≡ sector (image_with blocks) n) (sym at) same)
 
     pub partial_of : IsPartialReplay (image_with blocks) (image_with stopped)

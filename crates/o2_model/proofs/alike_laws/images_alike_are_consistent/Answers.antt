@@ -1,4 +1,4 @@
-use Rattle.o2_model.proofs.ConsistentImages.{consistent_opened, consistent_alike, contents_alike, geometry_alike}
+use Rattle.o2_model.proofs.Kept.ConsistentImages.{consistent_opened, consistent_alike, contents_alike, geometry_alike}
 use Rattle.o2_model.proofs.alike_laws.images_alike_are_consistent.Goals as goal
 
 pub returns-clause-opened : goal.returns-clause-opened

@@ -1,4 +1,4 @@
-use Rattle.o2_model.proofs.OwnedChecks.{check_keeps, none_fails_over}
+use Rattle.o2_model.proofs.Kept.OwnedChecks.{check_keeps, none_fails_over}
 use Rattle.o2_model.proofs.alike_laws.owned_blocks_tell_checks.Goals as goal
 
 pub returns-clause-faults : goal.returns-clause-faults

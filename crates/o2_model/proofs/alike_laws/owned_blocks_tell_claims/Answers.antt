@@ -1,7 +1,7 @@
-use Rattle.o2_model.proofs.ClaimsKeep.{owned_tell_claims}
-use Rattle.o2_model.proofs.OwnedKeep.{owned_tell_owned}
-use Rattle.o2_model.proofs.OdditiesKeep.{owned_tell_structure}
-use Rattle.o2_model.proofs.JournalsKeep.{owned_tell_dirty}
+use Rattle.o2_model.proofs.Kept.ClaimsKeep.{owned_tell_claims}
+use Rattle.o2_model.proofs.Kept.OwnedKeep.{owned_tell_owned}
+use Rattle.o2_model.proofs.Kept.OdditiesKeep.{owned_tell_structure}
+use Rattle.o2_model.proofs.Kept.JournalsKeep.{owned_tell_dirty}
 use Rattle.o2_model.proofs.alike_laws.owned_blocks_tell_claims.Goals as goal
 
 pub returns-clause-claims : goal.returns-clause-claims

@@ -1,6 +1,6 @@
-use Rattle.o2_model.proofs.SharingKeeps.{owned_tell_sharing}
-use Rattle.o2_model.proofs.ConsistentImages.{owned_tell_contents}
-use Rattle.o2_model.proofs.OdditiesKeep.{owned_tell_geometry}
+use Rattle.o2_model.proofs.Kept.SharingKeeps.{owned_tell_sharing}
+use Rattle.o2_model.proofs.Kept.ConsistentImages.{owned_tell_contents}
+use Rattle.o2_model.proofs.Kept.OdditiesKeep.{owned_tell_geometry}
 use Rattle.o2_model.proofs.alike_laws.owned_blocks_tell_contents.Goals as goal
 
 pub returns-clause-sharing : goal.returns-clause-sharing

@@ -1,5 +1,5 @@
 use Rattle.o2_model.proofs.GoodGroups.{groups_good}
-use Rattle.o2_model.proofs.GroupsOwned.{descriptor_owned, group_blocks_owned}
+use Rattle.o2_model.proofs.Owned.GroupsOwned.{descriptor_owned, group_blocks_owned}
 use Rattle.o2_model.proofs.owned_laws.blocks_of_groups_are_owned.Goals as goal
 
 pub returns-clause-good : goal.returns-clause-good

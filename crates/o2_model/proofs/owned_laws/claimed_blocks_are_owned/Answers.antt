@@ -1,4 +1,4 @@
-use Rattle.o2_model.proofs.OwnedBlocks.{structures_claim, inodes_claim, claimed_owned}
+use Rattle.o2_model.proofs.Owned.OwnedBlocks.{structures_claim, inodes_claim, claimed_owned}
 use Rattle.o2_model.proofs.owned_laws.claimed_blocks_are_owned.Goals as goal
 
 pub returns-clause-structures : goal.returns-clause-structures

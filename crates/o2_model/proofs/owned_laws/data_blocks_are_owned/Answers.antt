@@ -1,4 +1,4 @@
-use Rattle.o2_model.proofs.DataOwned.{data_owned, content_owned, directory_owned}
+use Rattle.o2_model.proofs.Owned.DataOwned.{data_owned, content_owned, directory_owned}
 use Rattle.o2_model.proofs.owned_laws.data_blocks_are_owned.Goals as goal
 
 pub returns-clause-data : goal.returns-clause-data

@@ -1,4 +1,4 @@
-use Rattle.o2_model.proofs.BitsOwned.{inode_bit_owned, dinode_owned, metadata_owned}
+use Rattle.o2_model.proofs.Owned.BitsOwned.{inode_bit_owned, dinode_owned, metadata_owned}
 use Rattle.o2_model.proofs.owned_laws.dinodes_and_extent_blocks_are_owned.Goals as goal
 
 pub returns-clause-bit : goal.returns-clause-bit

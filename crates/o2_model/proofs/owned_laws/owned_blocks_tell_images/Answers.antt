@@ -1,4 +1,4 @@
-use Rattle.o2_model.proofs.OwnedImages.{super_owned, owned_tell_volume, owned_tell_image_tree, owned_tell_image_files}
+use Rattle.o2_model.proofs.Owned.OwnedImages.{super_owned, owned_tell_volume, owned_tell_image_tree, owned_tell_image_files}
 use Rattle.o2_model.proofs.owned_laws.owned_blocks_tell_images.Goals as goal
 
 pub returns-clause-first : goal.returns-clause-first

@@ -1,4 +1,4 @@
-use Rattle.o2_model.proofs.OwnedTells.{owned_tell_extents, owned_tell_entries, owned_tell_content, owned_tell_file}
+use Rattle.o2_model.proofs.Owned.OwnedTells.{owned_tell_extents, owned_tell_entries, owned_tell_content, owned_tell_file}
 use Rattle.o2_model.proofs.owned_laws.owned_blocks_tell_inodes.Goals as goal
 
 pub returns-clause-extents : goal.returns-clause-extents

@@ -1,4 +1,4 @@
-use Rattle.o2_model.proofs.OwnedTables.{owned_tell_system_files, owned_tell_groups, owned_tell_inodes}
+use Rattle.o2_model.proofs.Owned.OwnedTables.{owned_tell_system_files, owned_tell_groups, owned_tell_inodes}
 use Rattle.o2_model.proofs.owned_laws.owned_blocks_tell_tables.Goals as goal
 
 pub returns-clause-files : goal.returns-clause-files

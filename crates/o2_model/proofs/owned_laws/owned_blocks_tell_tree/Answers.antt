@@ -1,5 +1,5 @@
-use Rattle.o2_model.proofs.OwnedFiles.{owned_tell_files}
-use Rattle.o2_model.proofs.OwnedTree.{owned_tell_tree}
+use Rattle.o2_model.proofs.Owned.OwnedFiles.{owned_tell_files}
+use Rattle.o2_model.proofs.Owned.OwnedTree.{owned_tell_tree}
 use Rattle.o2_model.proofs.owned_laws.owned_blocks_tell_tree.Goals as goal
 
 pub returns-clause-files : goal.returns-clause-files
