@@ -1,7 +1,8 @@
 -- Where nothing fails, each check's list is empty; and a check whose items keep their condition keeps its list.
-use Rattle.std.proofs.Common.{◌≡◌, inl, inr, ℕ, ◌^◌, Bool, true, List, [], ◌∷◌, ◌++◌, map, length, refl}
+use Rattle.std.proofs.Common.{◌≡◌, inl, inr, ℕ, ◌^◌, Bool, true, List, [], ◌∷◌, map, length, refl}
 use Rattle.std.specs.List.{AllByRecursion}
 use Rattle.std.proofs.lemmas.Bool.{cases_Bool}
+use Rattle.o2_model.proofs.Found.{append_nothing, map_none}
 use Rattle.o2_model.proofs.Rising.{none_rising}
 use Rattle.o2_disk.specs.Image.{Image, block_at}
 use Rattle.o2_model.specs.Words.{fails_at, those_not}
@@ -12,19 +13,11 @@ use Rattle.o2_model.specs.Failing.{faults, pairs, Holds}
 
 -- ---- nothing fails
 
-append_none : {A : Type 0} (xs ys : List A) → xs ++ ys ≡ [] → (xs ≡ []) × (ys ≡ [])
-append_none [] ys h = (refl, h)
-append_none (x ∷ xs) ys h = cc
-
-map_none : {A B : Type 0} (f : A → B) (xs : List A) → map f xs ≡ [] → xs ≡ []
-map_none f [] h = refl
-map_none f (x ∷ xs) h = cc
-
 -- where no pair fails, each check's list is empty
 pub each_none : (v : Volume) (checks : List Check) → pairs v checks ≡ [] → AllByRecursion (λ check. faults v check ≡ []) checks
 each_none v [] h = tt
 each_none v (check ∷ checks) h =
-    let parts = append_none (map (λ b. (check, b)) (rising (faults v check))) (pairs v checks) h in
+    let parts = append_nothing (map (λ b. (check, b)) (rising (faults v check))) (pairs v checks) h in
     (none_rising (faults v check) (map_none _ (rising (faults v check)) parts.0), each_none v checks parts.1)
 
 -- and the check holds at each block

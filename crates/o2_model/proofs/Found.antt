@@ -1,5 +1,5 @@
 -- Where a list is mapped, joined or filtered, a test finds what it found before.
-use Rattle.std.proofs.Common.{◌≡◌, inl, inr, ℕ, zero, suc, ◌+◌, ◌-◌, ◌<◌, ◌≤◌, Bool, true, ◌&&◌, ◌||◌, List, [], ◌∷◌, ◌++◌, map, refl, sym, ◌∙◌, ap, arith, Some}
+use Rattle.std.proofs.Common.{◌≡◌, inl, inr, ℕ, zero, suc, ◌+◌, ◌-◌, ◌<◌, ◌≤◌, Bool, true, ◌&&◌, ◌||◌, List, [], ◌∷◌, ◌++◌, map, length, refl, sym, ◌∙◌, ap, arith, Some}
 use Rattle.std.specs.Prelude.{flat_map, filter, find, slice_get}
 use Rattle.std.specs.List.{list_any, list_all, AllByRecursion, Contains, range_with_len}
 use Rattle.std.proofs.lemmas.Bool.{cases_Bool, false≢true}
@@ -85,10 +85,18 @@ passes_of_all p xs x all is = elim (cases_Bool (p x)) [
   | inr bad ↦ absurd (false≢true (sym (list_all_at p xs is.0 x is.1 (ap p is.2 ∙ bad)) ∙ all))
 ]
 
--- a list joined of two that is empty
+-- ---- lists with nothing in them
 pub append_nothing : {A : Type 0} (xs ys : List A) → xs ++ ys ≡ [] → (xs ≡ []) × (ys ≡ [])
 append_nothing [] ys h = (refl, h)
 append_nothing (x ∷ xs) ys h = cc
+
+pub map_none : {A B : Type 0} (f : A → B) (xs : List A) → map f xs ≡ [] → xs ≡ []
+map_none f [] h = refl
+map_none f (x ∷ xs) h = cc
+
+pub none_of_length : {A : Type 0} (xs : List A) → length xs ≡ 0 → xs ≡ []
+none_of_length [] h = refl
+none_of_length (x ∷ xs) h = absurd (omega arith)
 
 -- ---- what all elements have
 pub all_map : {A B : Type 0} (P : B → Type 0) (f : A → B) (xs : List A) → AllByRecursion (λ x. P (f x)) xs → AllByRecursion P (map f xs)

@@ -7,6 +7,7 @@ use Rattle.std.proofs.lemmas.Bool.Decides.{nat_tests}
 use Rattle.std.proofs.lemmas.List.{append_assoc}
 use Rattle.o2_model.specs.Logs.{Tag, Transaction, tags_of, revokes_of, with_write, with_revokes, no_writes, has_log_header, descriptor_type, revoke_type, commit_type, read_log}
 use Rattle.o2_model.specs.LogGrammar.{LogPart, Logged, Revoked, part_blocks, IsPart, with_writes, with_part, told_by, next_sequence, BeginsWith, Spell}
+use Rattle.o2_model.proofs.Found.{none_of_length}
 
 -- ---- a header has one type
 revoke_is_no_descriptor : (sequence : ℕ) (b : List ℕ) → has_log_header revoke_type sequence b ≡ true → has_log_header descriptor_type sequence b ≡ false
@@ -100,10 +101,6 @@ found_descriptor wide sequence t u us b blocks is f = record {
   tells = f.tells;
   others = f.others;
 }
-
-none_of_length : {A : Type 0} (xs : List A) → length xs ≡ 0 → xs ≡ []
-none_of_length [] h = refl
-none_of_length (x ∷ xs) h = absurd (omega (arith, h))
 
 found_revoke : (wide : Bool) (sequence : ℕ) (t : Transaction) (u : Transaction) (us : List Transaction) (b : List ℕ) (blocks : List (List ℕ)) → has_log_header revoke_type sequence b ≡ true
     → Found wide sequence (with_revokes t (revokes_of wide b)) [] u us blocks → Found wide sequence t [] u us (b ∷ blocks)

@@ -1,5 +1,5 @@
 -- A list that strictly rises and has the same numbers is the list in order.
-use Rattle.std.proofs.Common.{◌≡◌, inl, inr, eqb, ℕ, Bool, true, false, cond, ◌||◌, ◌&&◌, ◌==◌, nat_lt, List, [], ◌∷◌, map, length, arith, refl, sym, ◌∙◌, ap, subst, Option, Some, None}
+use Rattle.std.proofs.Common.{◌≡◌, inl, inr, eqb, ℕ, Bool, true, false, cond, ◌||◌, ◌&&◌, ◌==◌, nat_lt, List, [], ◌∷◌, map, refl, sym, ◌∙◌, ap, subst, Option, Some, None}
 use Rattle.std.specs.List.{list_any, AllByRecursion, dedup, dedup_from}
 use Rattle.std.specs.List.Sorted.{IsStrictlySortedBy, IsSorted, IsPermutation}
 use Rattle.std.proofs.lemmas.List.Sorted.{list_any-IsPermutation}
@@ -7,11 +7,12 @@ use Rattle.std.proofs.lemmas.Map.Keys.{sorted_from_strictly_increasing, IsStrict
 use Rattle.std.specs.FinMap as finite
 use Rattle.std.specs.FinMap.Entries.{below_all, by_order, put}
 use Rattle.std.specs.declared.cmp.Ordering.TheVariants.{Less, Equal, Greater}
-use Rattle.std.specs.Ordering.{nat_cmp, eq_by_cmp, is_lt, is_eq}
-use Rattle.std.specs.Cmp.{nat_cmp_total, tied_itself}
+use Rattle.std.specs.Ordering.{nat_cmp, eq_by_cmp, is_lt}
+use Rattle.std.specs.Cmp.{nat_cmp_total}
 use lib.Dec.{T}
 use Rattle.std.proofs.lemmas.Bool.{cases_Bool, eqb-true}
 use Rattle.o2_model.specs.Orders.{with_number, rising}
+use Rattle.o2_model.proofs.Found.{none_of_length}
 
 abbrev pub marks : List ℕ → List (ℕ × Unit {0})
 marks ns = map (λ n. (n, tt {0})) ns
@@ -29,10 +30,6 @@ keys-put n [] = refl
 keys-put n (e ∷ es) =
     by_tests (map (λ (x : ℕ × Unit {0}). x.0)) (nat_lt n e.0) (n == e.0) ((n, tt {0}) ∷ e ∷ es) ((e.0, tt {0}) ∷ es) (e ∷ put nat_cmp n (tt {0}) es)
     ∙ ap (λ ms. cond (nat_lt n e.0) (n ∷ e.0 ∷ map (λ (x : ℕ × Unit {0}). x.0) es) (cond (n == e.0) (e.0 ∷ map (λ (x : ℕ × Unit {0}). x.0) es) (e.0 ∷ ms))) (keys-put n es)
-
-none_of_length : {A : Type 0} (xs : List A) → length xs ≡ 0 → xs ≡ []
-none_of_length [] h = refl
-none_of_length (x ∷ xs) h = absurd (omega arith)
 
 -- numbers in order are the keys of a finite map
 rising-keys : (ns : List ℕ) → rising ns ≡ finite.keys (finite.from_entries {R = nat_cmp} (marks ns))
@@ -78,19 +75,20 @@ rising_is ns ms sorted same =
     finite.get-from_entries nat_cmp_total (marks ns) q ∙ (find-marks ns q ∙ (ap (λ b. cond b (Some (tt {0})) None) (sym (same q)) ∙ (sym (find-marks ms q) ∙ sym (finite.get-from_sorted nat_cmp (marks ms) q h))))) in
     rising-keys ns ∙ (ap finite.keys one ∙ (ap (map (λ (e : ℕ × Unit {0}). e.0)) (finite.entries-from_sorted nat_cmp (marks ms) h) ∙ keys-marks ms))
 
-map_none : {A B : Type 0} (f : A → B) (xs : List A) → map f xs ≡ [] → xs ≡ []
-map_none f [] h = refl
-map_none f (x ∷ xs) h = cc
+some_number : (n : ℕ) (ms : List ℕ) → with_number n ms ≡ [] → ⊥
+some_number n [] h = cc
+some_number n (m ∷ ms) h = elim (cases_Bool (nat_lt n m)) [
+  | inl first ↦ let e = rw first at h in cc
+  | inr later ↦ elim (cases_Bool (n == m)) [
+    | inl again ↦ let e = rw (later, again) at h in cc
+    | inr new ↦ let e = rw (later, new) at h in cc
+  ]
+]
 
 -- None rises where there is none.
 pub none_rising : (ns : List ℕ) → rising ns ≡ [] → ns ≡ []
 none_rising [] h = refl
-none_rising (n ∷ ns) h =
-    let m = finite.from_entries {R = nat_cmp} (marks (n ∷ ns)) in
-    let nothing : finite.entries m ≡ [] = map_none (λ (e : ℕ × Unit {0}). e.0) (finite.entries m) (sym (rising-keys (n ∷ ns)) ∙ h) in
-    let absent : finite.get m n ≡ None = finite.get-entries m n ∙ ap (finite.find nat_cmp n) nothing in
-    let there : finite.get m n ≡ Some (tt {0}) = finite.get-from_entries nat_cmp_total (marks (n ∷ ns)) n ∙ ap (λ r. cond (is_eq r) (Some (tt {0})) (finite.find nat_cmp n (marks ns))) (tied_itself nat_cmp_total n) in
-    let e : None ≡ Some (tt {0}) = sym absent ∙ there in cc
+none_rising (n ∷ ns) h = absurd (some_number n (rising ns) h)
 
 -- What holds of all of them holds of all of them in order.
 all_with : (P : ℕ → Type 0) (n : ℕ) (ms : List ℕ) → P n → AllByRecursion P ms → AllByRecursion P (with_number n ms)

@@ -4,7 +4,7 @@ use Rattle.std.proofs.lemmas.Bool.{cases_Bool, or_right, or_left, eq-eqb}
 use Rattle.std.proofs.lemmas.List.Folds.{list_any-append}
 use Rattle.std.proofs.lemmas.List.{map-append}
 use Rattle.std.specs.List.{AllByRecursion}
-use Rattle.o2_model.specs.Words.{among, push}
+use Rattle.o2_model.specs.Words.{among}
 use Rattle.o2_model.specs.Frames.{SameOn, group_blocks as places}
 use Rattle.o2_model.specs.Volume.{Volume, over, blocks}
 use Rattle.o2_ondisk.specs.declared.group_desc.GroupDesc.{GroupDesc}
@@ -12,6 +12,7 @@ use Rattle.o2_model.specs.declared.allocator.Allocator.{Allocator}
 use Rattle.o2_model.specs.declared.allocator.Group.{Group}
 use Rattle.o2_model.specs.Allocators.{chain_heads, chains, is_sound_chain_header, allocators}
 use Rattle.o2_model.specs.Groups.{GroupWalk, group_desc, is_good_group, with_group, with_bad_link, walk_chain, walk_chains, walk_allocators, group_walk}
+use Rattle.o2_model.proofs.Readings.{push_some}
 
 -- what the walk reads of a group is the same: all but its count of free bits, its chain and its bits
 pub record SameLinks (x y : GroupDesc) : Type 0 where
@@ -44,10 +45,6 @@ grows_both g h = record { places = λ b k. h.places b (g.places b k); faults = �
 grows_cond : (c : Bool) (t u s : GroupWalk) → Grows t u → Grows t s → Grows t (cond c u s)
 grows_cond true t u s g h = g
 grows_cond false t u s g h = h
-
-push_some : {A : Type 0} (xs : List A) (x : A) → push xs x ≡ [] → ⊥
-push_some [] x e = cc
-push_some (y ∷ ys) x e = cc
 
 places-with : (w : GroupWalk) (a : Allocator) (chain b bits : ℕ) → places (with_group w a chain b bits) ≡ places w ++ b ∷ []
 places-with w a chain b bits = map-append (λ (g : Group). g.block) w.groups _

@@ -35,7 +35,7 @@ bit_same v at same b =
     ap (λ w. list_any (λ g. are_inodes g.of.bit_use && is_on_set_bit (over v at) b g) w.groups) same.groups
     ∙ bits_same v at b (groups v) same.bits
 
-valid_same : (v : Volume) (at : ℕ → List ℕ) (b : ℕ) → at b ≡ v.at b → is_valid (over v at) b ≡ is_valid v b
+pub valid_same : (v : Volume) (at : ℕ → List ℕ) (b : ℕ) → at b ≡ v.at b → is_valid (over v at) b ≡ is_valid v b
 unfolding is_valid
 valid_same v at b same = rw same refl
 

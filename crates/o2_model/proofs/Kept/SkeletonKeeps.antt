@@ -27,8 +27,8 @@ use Rattle.o2_model.proofs.SameAllocators.{inode_same}
 use Rattle.o2_model.proofs.Agreeing.{all_agree, fails_agree, option_agree}
 use Rattle.o2_model.proofs.Owned.SystemOwned.{root_is_inode, sysdir_is_inode, sysdir_is_directory, file_is_inode, directory_apart}
 use Rattle.o2_model.proofs.Owned.OwnedTells.{dinode_same, owned_tell_extents, owned_tell_dir_blocks, owned_tell_entries}
-use Rattle.o2_model.proofs.Owned.OwnedTables.{owned_tell_system_files, valid_same, owned_tell_inode}
-use Rattle.o2_model.proofs.SameInodes.{directory_same}
+use Rattle.o2_model.proofs.Owned.OwnedTables.{owned_tell_system_files, owned_tell_inode}
+use Rattle.o2_model.proofs.SameInodes.{directory_same, valid_same}
 use Rattle.o2_model.proofs.Kept.JournalsKeep.{extent_faults_same}
 use Rattle.o2_model.proofs.Kept.InodeChecksKeep.{sound_size_same}
 

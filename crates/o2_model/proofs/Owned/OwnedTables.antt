@@ -1,5 +1,5 @@
 -- Where nothing fails, blocks that agree on the owned ones have the same system files, groups and inodes.
-use Rattle.std.proofs.Common.{◌≡◌, inl, inr, ⊎_elim, ℕ, Bool, true, false, ◌&&◌, ◌||◌, ◌==◌, List, [], ◌++◌, map, refl, sym, ◌∙◌, ap, subst, Option, Some, None}
+use Rattle.std.proofs.Common.{◌≡◌, inl, inr, ⊎_elim, ℕ, Bool, true, false, ◌&&◌, ◌||◌, ◌==◌, List, [], ◌++◌, map, sym, ◌∙◌, ap, subst, Option, Some, None}
 use Rattle.std.specs.Prelude.{flat_map, nat_lt}
 use Rattle.std.specs.List.{list_any, Contains, range_with_len}
 use Rattle.std.specs.Option.{option_map_or}
@@ -30,6 +30,7 @@ use Rattle.o2_model.proofs.Owned.GroupsOwned.{descriptor_owned}
 use Rattle.o2_model.proofs.Owned.BitsOwned.{inode_bit_owned}
 use Rattle.o2_model.proofs.Owned.SystemOwned.{sysdir_is_inode, sysdir_is_directory, file_is_inode, directory_apart}
 use Rattle.o2_model.proofs.Owned.OwnedTells.{dinode_same, owned_tell_entries}
+use Rattle.o2_model.proofs.SameInodes.{valid_same}
 
 -- ---- the volume's own files
 pub owned_tell_system_files : (v : Volume) (at : ℕ → List ℕ) → failing v ≡ [] → AgreesOnOwned v at → SameSystemFiles v at
@@ -104,10 +105,6 @@ bits_same : (v : Volume) (at : ℕ → List ℕ) (b : ℕ) → failing v ≡ [] 
 bits_same v at b none agrees =
     ap (λ w. list_any (λ g. are_inodes g.of.bit_use && is_on_set_bit (over v at) b g) w.groups) (owned_tell_groups v at none agrees)
     ∙ any_agree (λ g. are_inodes g.of.bit_use && is_on_set_bit (over v at) b g) (λ g. are_inodes g.of.bit_use && is_on_set_bit v b g) (groups v) (bit_same v at b agrees)
-
-pub valid_same : (v : Volume) (at : ℕ → List ℕ) (b : ℕ) → at b ≡ v.at b → is_valid (over v at) b ≡ is_valid v b
-unfolding is_valid
-valid_same v at b same = rw same refl
 
 pub owned_tell_inode : (v : Volume) (at : ℕ → List ℕ) (b : ℕ) → failing v ≡ [] → AgreesOnOwned v at → is_inode (over v at) b ≡ is_inode v b
 unfolding is_inode
