@@ -10,3 +10,4 @@ pub mod WholeVolume
 pub mod BackupVolume
 pub mod DirtyVolume
 pub mod WholeImages
+pub mod HandMadeTree

@@ -5,6 +5,7 @@ pub mod directory_checks;
 pub mod entries;
 pub mod extents;
 pub mod groups;
+pub mod hand_made_tree;
 pub mod inode_checks;
 pub mod logs;
 pub mod replays;
