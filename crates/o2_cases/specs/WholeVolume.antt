@@ -1,9 +1,9 @@
 -- A whole volume of 16 clusters of 8 blocks, on which every check holds. Its clusters:
 --
---     0 superblock        4 (inodes)          8 orphan 32       12 truncate record
---     1 bitmap's group    5 extent blocks     9 directory 28    13 file 29
---     2 inodes           6 slot map         10 file 29         14 window, free
---     3 (inodes)          7 journal          11 files 30, 31    15 free
+--     0 superblock        4 (inodes)          8 orphan 32         12 truncate record
+--     1 bitmap's group    5 extent blocks     9 directory 28      13 file 29
+--     2 inodes            6 slot map          10 file 29          14 window, free
+--     3 (inodes)          7 journal           11 files 30, 31     15 free
 use Rattle.std.specs.Prelude.{ℕ, ◌-◌, ◌==◌, List, [], ◌∷◌, ◌++◌, codes, length, nat_lt, replicate, if◌then◌else◌}
 use Rattle.byteorder.specs.Endian.{little_bytes, big_bytes}
 use Rattle.o2_ondisk.specs.Fields.{put_at, put_all}

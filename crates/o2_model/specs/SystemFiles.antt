@@ -33,7 +33,7 @@ system_name (OfSlot file slot) = slot_file_name file ++ codes ":" ++ slot_digits
 abbrev pub decimal_number : List ℕ → ℕ
 decimal_number digits = fold (λ n digit. 10 * n + (digit - 48)) 0 digits
 
--- the slot of whose file this is the name, as its last four bytes tell it; any other name is of no slot
+-- the slot whose file of this kind has the name, as the name's last four bytes tell it; any other name is of no slot
 unfoldable pub slot_in_name : SlotFile → List ℕ → Option ℕ
 slot_in_name file name =
     let slot = decimal_number (drop (length name - 4) name) in
