@@ -7,6 +7,7 @@ pub mod Looks
 pub mod TreeWalks
 pub mod TreeEnds
 pub mod FirstNames
+pub mod IntactSteps
 pub mod SameTree
 pub mod SameSuperblock
 pub mod SameGroups

@@ -9,6 +9,7 @@ mod entry_laws;
 mod extent_laws;
 mod frame_laws;
 mod geo;
+mod intact_laws;
 mod journal_part;
 mod laws;
 mod log_laws;
@@ -37,6 +38,7 @@ pub use frame_laws::{
     tables_tell_inodes_and_tree,
 };
 pub use geo::Geo;
+pub use intact_laws::intact_paths_are_kept_by_steps;
 pub use journal_part::JournalPart;
 pub use laws::{geometry_tells_block_bits, label_alone_changes};
 pub use log_laws::log_is_what_its_blocks_spell;
