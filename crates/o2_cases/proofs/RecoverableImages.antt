@@ -5,9 +5,9 @@ use Rattle.std.specs.List.{list_all, AllByRecursion, IsDistinct}
 use Rattle.std.proofs.lemmas.Bool.{and_parts, ne_eqb}
 use Rattle.o2_disk.specs.Image.{Image}
 use Rattle.o2_model.specs.Anchors.{log_fault}
-use Rattle.o2_model.specs.Consistent.{IsConsistent, HasSoundSkeleton, failing_checks}
+use Rattle.o2_model.specs.Consistent.{IsConsistent, failing_checks}
 use Rattle.o2_model.specs.Volume.{Volume, opened}
-use Rattle.o2_model.specs.Failing.{failing, pairs, skeleton}
+use Rattle.o2_model.specs.Failing.{failing}
 use Rattle.o2_model.specs.Replay.{replayed, IsPartialReplay, IsReplayable, IsReplayStable}
 use Rattle.o2_model.specs.Structures.{unsupported_structure}
 use Rattle.o2_model.specs.declared.check.Check.{Check}
@@ -67,9 +67,6 @@ dirty_replayed before later one = replayed-is dirty_blocks clean_blocks 25 88 (d
 -- what is found of the volume after the replay
 pub found_after : {A : Type 0} (f : Volume → A) → IsVolume clean_blocks → replayed dirty_image ≡ replayed_image → option_map f (opened (replayed dirty_image)) ≡ Some (f (volume_with clean_blocks))
 found_after f later is = ap (λ I. option_map f (opened I)) is ∙ ap (option_map f) (opened-image_with clean_blocks later)
-
-pub skeleton_of : (blocks : ℕ → List ℕ) → IsVolume blocks → pairs (volume_with blocks) skeleton ≡ [] → HasSoundSkeleton (image_with blocks)
-skeleton_of blocks is none = record { volume = volume_with blocks; is_opened = opened-image_with blocks is; none_fails = none }
 
 -- ---- where it is stopped
 pub dirty_itself : IsVolume dirty_blocks → IsPartialReplay dirty_image dirty_image

@@ -19,6 +19,7 @@ pub mod Failing
 pub mod SameInodes
 pub mod NothingFails
 pub mod Replays
+pub mod Recoverables
 pub mod LogReadings
 pub mod SameContents
 pub mod SameAllocators

@@ -52,8 +52,8 @@ pub use owned_laws::{
     owned_blocks_tell_tree,
 };
 pub use replay_laws::{
-    clean_image_has_no_variant, consistent_image_stays, each_check_holds, replay_keeps_length,
-    stable_image_can_be_replayed,
+    clean_image_has_no_variant, consistent_image_stays, consistent_images_are_recoverable,
+    each_check_holds, replay_keeps_length, stable_image_can_be_replayed,
 };
 pub use system_file::{SlotFile, SystemFile};
 pub use walk_laws::{

@@ -6,7 +6,7 @@ ghost use Rattle.o2_model.specs.Volume.{Volume, opened};
 ghost use Rattle.o2_model.specs.Failing.{faults, failing, Holds};
 ghost use Rattle.o2_model.specs.Consistent.{IsConsistent};
 ghost use Rattle.o2_model.specs.Dirty.{dirty_slots, all_committed_writes};
-ghost use Rattle.o2_model.specs.Replay.{replayed, IsPartialReplay, IsReplayable, IsReplayStable};
+ghost use Rattle.o2_model.specs.Replay.{replayed, IsPartialReplay, IsRecoverable, IsRepairable, IsReplayable, IsReplayStable};
 
 /// A law: where no pair fails, each check holds at each block.
 pub fn each_check_holds()
@@ -35,4 +35,10 @@ pub fn stable_image_can_be_replayed()
 /// A law: a replay keeps the number of sectors.
 pub fn replay_keeps_length()
     ensures { (I : Image) → length (replayed I) ≡ length I }
+{}
+
+/// A law: a consistent image is recoverable, as there is nothing to replay, and a recoverable one is repairable.
+pub fn consistent_images_are_recoverable()
+    ensures recoverable { (I : Image) → IsConsistent I → IsRecoverable I }
+    ensures repairable { (I : Image) → IsRecoverable I → IsRepairable I }
 {}

@@ -4,7 +4,7 @@ ghost use Rattle.o2_model.specs.Contents.{content_of};
 ghost use Rattle.o2_model.specs.Contents.Content.{Bytes};
 ghost use Rattle.o2_model.specs.declared.check.Check.TheVariants.{JournalDirty};
 ghost use Rattle.o2_model.specs.Anchors.{log_fault};
-ghost use Rattle.o2_model.specs.Failing.{failing, pairs, skeleton};
+ghost use Rattle.o2_model.specs.Failing.{failing};
 ghost use Rattle.o2_model.specs.Structures.{unsupported_structure};
 ghost use Rattle.o2_cases.specs.WholeImages.{CanBeReplayed, HasOneWrite, IsVolume, clean_blocks, dirty_blocks, harmful_blocks, stopped_blocks};
 ghost use Rattle.o2_cases.specs.WholeVolume.{on_device, volume_with, whole_block};
@@ -23,7 +23,6 @@ pub fn failures_of_blocks()
     ensures dirty { failing (volume_with dirty_blocks) ≡ (JournalDirty, 25) ∷ [] }
     ensures clean { failing (volume_with clean_blocks) ≡ [] }
     ensures clean_structures { unsupported_structure (volume_with clean_blocks) ≡ None }
-    ensures clean_skeleton { pairs (volume_with clean_blocks) skeleton ≡ [] }
     ensures new_content { content_of (volume_with clean_blocks) 30 ≡ Bytes (codes "world") }
 {}
 
