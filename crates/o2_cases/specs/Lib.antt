@@ -9,4 +9,5 @@ pub mod WholeInodes
 pub mod WholeVolume
 pub mod BackupVolume
 pub mod DirtyVolume
+pub mod OtherVolumes
 pub mod WholeImages
