@@ -10,7 +10,7 @@ use Rattle.o2_cases.specs.SmallVolumes.{small_at, small_geo}
 use Rattle.o2_cases.specs.SmallFiles.{one_record, record_of}
 use Rattle.o2_cases.specs.SmallLogs.{commit, header_bytes, one_tag_of, tag_bytes}
 use Rattle.o2_cases.specs.WholeInodes.{dinode_with, inline_directory, inline_entries, one_cluster, own_dinode}
-use Rattle.o2_cases.specs.WholeVolume.{volume_with, whole_block, whole_journal_super, whole_super, with_number_at}
+use Rattle.o2_cases.specs.WholeVolume.{volume_with, whole_block, whole_geo, whole_journal_super, whole_super, with_number_at}
 
 -- the journal's dinode with these flags of its own (ij_flags), and one cluster that begins this block
 abbrev pub journal_dinode : ℕ → ℕ → List ℕ
@@ -72,6 +72,10 @@ logging_slots slots flags =
     with_system_entry 34 (codes "journal:0001")
     (in_place_of 34 (dinode_with (record (own_dinode 34 0x100) { role_data = record { 0 = flags } }) [])
     (logging_block 2 (put_at 0x100 2 slots whole_super)))
+
+-- the same on a volume of two slots
+abbrev pub of_two_slots : (ℕ → List ℕ) → Volume
+of_two_slots blocks = record (volume_with blocks) { geo = record whole_geo { slots = 2 } }
 
 -- ---- blocks of two sectors
 -- the system directory with the dots alone, of a volume with blocks of 1024 bytes

@@ -116,6 +116,14 @@ leaf_index_blocks =
     else if nat_lt 121 b then (if nat_lt b 128 then index_leaf b 0 [] else [])
     else whole_block b))))
 
+-- The list in its root names block 44, an extent block with the record of cluster 15.
+abbrev pub deep_index_blocks : ℕ → List ℕ
+deep_index_blocks =
+    with_fifth_block
+    (with_number_at 43 0xc0 2 1 (with_number_at 43 0xd8 8 44
+    (in_place_of 44 (extent_block_at 4 0 0 (record_of 0 1 0 120))
+    leaf_index_blocks)))
+
 -- Directory 28 has a second block, whose one entry is a name of file 30 with a byte that is not ASCII; its index entry has no hash.
 abbrev pub two_directory_blocks : ℕ → List ℕ
 two_directory_blocks =

@@ -6,7 +6,7 @@ ghost use Rattle.o2_model.specs.Anchors.{anchors_of, is_allowed_write, log_fault
 ghost use Rattle.o2_model.specs.Dirty.{as_logged, committed_writes, dirty_slots, journal_fault, slot_journal};
 ghost use Rattle.o2_model.specs.Journals.{journals};
 ghost use Rattle.o2_model.specs.Replay.{as_clean};
-ghost use Rattle.o2_cases.specs.DirtyVolume.{journal_dinode, logging, logging_block, logging_both, logging_slots, logging_with, two_sectors, with_two_sectors, wrapping_block};
+ghost use Rattle.o2_cases.specs.DirtyVolume.{journal_dinode, logging, logging_block, logging_both, logging_slots, logging_with, of_two_slots, two_sectors, with_two_sectors, wrapping_block};
 ghost use Rattle.o2_cases.specs.OtherVolumes.{directory_block, directory_blocks, directory_in_cluster, in_place_of};
 ghost use Rattle.o2_cases.specs.WholeVolume.{filled, volume_with, whole, whole_block, whole_super, with_number_at};
 
@@ -129,4 +129,17 @@ pub fn bounds_of_allowed_writes()
     ensures same { is_allowed_write with_two_sectors 0 (record { block = 17; bytes = two_sectors }) ≡ true }
     ensures first_sector { is_allowed_write with_two_sectors 0 (record { block = 17; bytes = put_at 511 1 7 two_sectors }) ≡ true }
     ensures second_sector { is_allowed_write with_two_sectors 0 (record { block = 17; bytes = put_at 512 1 7 two_sectors }) ≡ false }
+{}
+
+/// A law: the slots are gone through rising, with the journal of each. The first dirty one that can't be used is told, whatever is wrong with it,
+/// and each dirty one has to stay counted.
+pub fn two_dirty_slots()
+    ensures journals { journals (of_two_slots (logging_slots 2 1)) ≡ 25 ∷ 34 ∷ [] }
+    ensures dirty { dirty_slots (of_two_slots (logging_slots 2 1)) ≡ 0 ∷ 1 ∷ [] }
+    ensures second_clean { dirty_slots (of_two_slots (logging_slots 2 2)) ≡ 0 ∷ [] }
+    ensures second { journal_fault (of_two_slots (logging_slots 2 1)) ≡ Some (1, Extents) }
+    ensures first { journal_fault (of_two_slots (with_number_at 56 0x1f 1 8 (logging_slots 2 1))) ≡ Some (0, Superblock) }
+    ensures anchors { anchors_of (of_two_slots (logging_slots 2 1)) ≡ 0 ∷ 1 ∷ 2 ∷ 17 ∷ 25 ∷ 56 ∷ 57 ∷ 58 ∷ 59 ∷ 60 ∷ 61 ∷ 62 ∷ 63 ∷ 34 ∷ [] }
+    ensures both_counted { log_fault (of_two_slots (logging_slots 2 1)) ≡ None }
+    ensures one_counted { log_fault (of_two_slots (logging_slots 1 1)) ≡ Some (0, 2) }
 {}

@@ -5,7 +5,7 @@ ghost use Rattle.o2_model.specs.declared.check.Check.TheVariants as check;
 ghost use Rattle.o2_model.specs.Failing.{failing};
 ghost use Rattle.o2_model.specs.Checks.RefCover.{is_shared_evenly};
 ghost use Rattle.o2_cases.specs.WholeVolume.{volume_with, whole_block, with_number, with_number_at};
-ghost use Rattle.o2_cases.specs.OtherVolumes.{changed, leaf_index_blocks, leaf_refcount_blocks, two_directory_blocks};
+ghost use Rattle.o2_cases.specs.OtherVolumes.{changed, deep_index_blocks, leaf_index_blocks, leaf_refcount_blocks, two_directory_blocks};
 
 /// A law: an inode with refcounted records has a tree. One without may share with none.
 pub fn wrong_trees()
@@ -125,4 +125,14 @@ pub fn wrong_index_leaves()
     ensures claimed { failing (changed leaf_index_blocks 32 0xd8 8 120) ≡ (check.Dx, 28) ∷ (check.BlockAllocBit, 40) ∷ (check.ClusterAllocBit, 8) ∷ [] }
     ensures flags { failing (changed leaf_index_blocks 43 0xd7 1 3) ≡ [] }
     ensures room_of_root { failing (changed leaf_index_blocks 43 0xc2 2 20) ≡ (check.Dx, 28) ∷ (check.BlockAllocBit, 40) ∷ (check.ClusterAllocBit, 8) ∷ [] }
+{}
+
+/// A law: an extent block of an index has its own bit, and tells it. What it names as the next one, and the root as the last, is not asked.
+pub fn wrong_deep_indexes()
+    ensures sound { failing (volume_with deep_index_blocks) ≡ [] }
+    ensures bit { failing (changed deep_index_blocks 44 0x12 2 5) ≡ (check.Dx, 28) ∷ (check.BlockAllocBit, 40) ∷ (check.ClusterAllocBit, 8) ∷ [] }
+    ensures slot { failing (changed deep_index_blocks 44 0x10 2 1) ≡ (check.Dx, 28) ∷ (check.BlockAllocBit, 40) ∷ (check.ClusterAllocBit, 8) ∷ [] }
+    ensures depth { failing (changed deep_index_blocks 44 0x30 2 1) ≡ (check.Dx, 28) ∷ (check.BlockAllocBit, 40) ∷ (check.ClusterAllocBit, 8) ∷ [] }
+    ensures next { failing (changed deep_index_blocks 44 0x28 8 7) ≡ [] }
+    ensures last { failing (changed deep_index_blocks 43 0x20 8 7) ≡ [] }
 {}

@@ -1,5 +1,5 @@
 // What is read of a whole volume, and that nothing on it fails.
-ghost use Rattle.std.specs.Prelude.{◌≡◌, [], ◌∷◌, ◌++◌, Some, None, true, false, map, length, take, codes};
+ghost use Rattle.std.specs.Prelude.{◌≡◌, ℕ, [], ◌∷◌, ◌++◌, Some, None, true, false, map, length, take, codes};
 ghost use Rattle.o2_model.specs.declared.oddity.Oddity.TheVariants.{Attributes, DioOrphan, DiscontiguousGroup};
 ghost use Rattle.o2_model.specs.declared.system_file.SlotFile.TheVariants.{Journal};
 ghost use Rattle.o2_model.specs.declared.system_file.SystemFile.TheVariants.{GlobalBitmap, Heartbeat, OfSlot};
@@ -9,6 +9,7 @@ ghost use Rattle.o2_model.specs.Allocators.{allocators};
 ghost use Rattle.o2_model.specs.Groups.{group_walk, groups_of, inodes_of, is_inode};
 ghost use Rattle.o2_model.specs.Inodes.{extent_blocks_of, records_of};
 ghost use Rattle.o2_model.specs.Contents.{content_of};
+ghost use Rattle.o2_model.specs.Directories.{directory_entries};
 ghost use Rattle.o2_model.specs.Contents.Content.{Bytes, Entries, Nothing};
 ghost use Rattle.o2_model.specs.Tree.{inode_at, is_met, link_count, met_inodes, tree_directories, tree_walk};
 ghost use Rattle.o2_model.specs.Intact.{intact_paths, is_intact};
@@ -22,6 +23,7 @@ ghost use Rattle.o2_model.specs.Owned.{is_owned, owned_blocks};
 ghost use Rattle.o2_model.specs.Structures.{unsupported_structure};
 ghost use Rattle.o2_model.specs.Failing.{failing};
 ghost use Rattle.o2_cases.specs.SmallFiles.{record_of};
+ghost use Rattle.o2_cases.specs.OtherVolumes.{changed, leaf_index_blocks, two_directory_blocks};
 ghost use Rattle.o2_cases.specs.WholeVolume.{volume_with, whole, whole_block, whole_geo, with_number, with_number_at};
 
 /// A law: nothing fails on the whole volume, and it has no structure outside the profile.
@@ -199,4 +201,16 @@ pub fn identifier_of_whole()
     ensures label_length { length (volume_geometry whole).label ≡ 64 }
     ensures identifier_length { length (volume_geometry whole).uuid ≡ 16 }
     ensures no_second_journal { (volume_geometry (record whole { geo = record whole_geo { slots = 2 } })).journals ≡ 1 ∷ 0 ∷ [] }
+{}
+
+/// A law: an entry tells its block and its place there, or among the inline bytes. Of two entries with one name the first counts.
+pub fn places_of_entries()
+    ensures in_block { map {B = ℕ × ℕ} (λ e. (e.block, e.at)) (directory_entries whole 28) ≡ (72, 0) ∷ (72, 16) ∷ (72, 32) ∷ [] }
+    ensures inline { map {B = ℕ × ℕ} (λ e. (e.block, e.at)) (directory_entries whole 22) ≡ (22, 0) ∷ (22, 16) ∷ (22, 32) ∷ [] }
+    ensures behind_void { map {B = ℕ × ℕ} (λ e. (e.inode, e.at)) (directory_entries (with_number 22 216 8 0) 22) ≡ (22, 0) ∷ (32, 32) ∷ [] }
+    ensures second_block { map {B = ℕ × ℕ} (λ e. (e.block, e.at)) (directory_entries (volume_with two_directory_blocks) 28) ≡ (72, 0) ∷ (72, 16) ∷ (72, 32) ∷ (73, 0) ∷ [] }
+    ensures namesakes { inode_at (with_number 18 292 1 0x61) (codes "a" ∷ []) ≡ Some 30 }
+    ensures names_of_one { met_inodes (with_number 18 292 1 0x61) ≡ 18 ∷ 28 ∷ 29 ∷ 30 ∷ 31 ∷ 33 ∷ [] }
+    ensures index_leaf { is_owned (volume_with leaf_index_blocks) 127 ≡ true }
+    ensures unsound_index { is_owned (changed leaf_index_blocks 43 0x38 4 9) 127 ≡ false }
 {}
