@@ -1,10 +1,16 @@
 -- The whole volume with a dirty journal, whose log has one transaction in blocks 57 to 59.
-use Rattle.std.specs.Prelude.{ℕ, ◌==◌, List, if◌then◌else◌}
+use Rattle.std.specs.Prelude.{ℕ, ◌==◌, List, [], ◌++◌, codes, if◌then◌else◌}
+use Rattle.o2_ondisk.specs.Fields.{put_at}
+use Rattle.o2_model.specs.Logs.{descriptor_type}
 use Rattle.o2_model.specs.Volume.{Volume}
+use Rattle.o2_cases.specs.OtherVolumes.{in_place_of, with_system_entry}
+use Rattle.o2_cases.specs.SmallBytes.{zero_bytes}
+use Rattle.o2_cases.specs.SmallEntries.{dots}
+use Rattle.o2_cases.specs.SmallVolumes.{small_at, small_geo}
 use Rattle.o2_cases.specs.SmallFiles.{one_record, record_of}
-use Rattle.o2_cases.specs.SmallLogs.{commit, one_tag_of}
-use Rattle.o2_cases.specs.WholeInodes.{dinode_with, one_cluster, own_dinode}
-use Rattle.o2_cases.specs.WholeVolume.{volume_with, whole_block, whole_journal_super, with_number_at}
+use Rattle.o2_cases.specs.SmallLogs.{commit, header_bytes, one_tag_of, tag_bytes}
+use Rattle.o2_cases.specs.WholeInodes.{dinode_with, inline_directory, inline_entries, one_cluster, own_dinode}
+use Rattle.o2_cases.specs.WholeVolume.{volume_with, whole_block, whole_geo, whole_journal_super, whole_super, with_number_at}
 
 -- the journal's dinode with these flags of its own (ij_flags), and one cluster that begins this block
 abbrev pub journal_dinode : ℕ → ℕ → List ℕ
@@ -40,3 +46,41 @@ replayed_block target bytes b =
 -- The blocks where a replay was stopped behind the write.
 abbrev pub stopped_block : ℕ → List ℕ → ℕ → List ℕ
 stopped_block target bytes b = if b == target then bytes else logging_block target bytes b
+
+-- ---- other logs
+-- The log has two writes of one descriptor.
+abbrev pub logging_both : ℕ → List ℕ → ℕ → List ℕ → ℕ → List ℕ
+logging_both first bytes second further b =
+    if b == 57 then header_bytes descriptor_type 9 ++ tag_bytes first 0x2 ++ tag_bytes second 0xa
+    else if b == 58 then bytes
+    else if b == 59 then further
+    else if b == 60 then commit 9
+    else logging_block first bytes b
+
+-- The log begins the journal's block 6, and goes on in its block 1 behind its last one.
+abbrev pub wrapping_block : ℕ → List ℕ → ℕ → List ℕ
+wrapping_block target bytes b =
+    if b == 56 then whole_journal_super 6
+    else if b == 62 then one_tag_of target 9
+    else if b == 63 then bytes
+    else if b == 57 then commit 9
+    else logging_block target bytes b
+
+-- The log tells this number of slots, and block 34 has the journal of a second slot, with these flags of its own.
+abbrev pub logging_slots : ℕ → ℕ → ℕ → List ℕ
+logging_slots slots flags =
+    with_system_entry 34 (codes "journal:0001")
+    (in_place_of 34 (dinode_with (record (own_dinode 34 0x100) { role_data = record { 0 = flags } }) [])
+    (logging_block 2 (put_at 0x100 2 slots whole_super)))
+
+-- the same on a volume of two slots
+abbrev pub of_two_slots : (ℕ → List ℕ) → Volume
+of_two_slots blocks = record (volume_with blocks) { geo = record whole_geo { slots = 2 } }
+
+-- ---- blocks of two sectors
+-- the system directory with the dots alone, of a volume with blocks of 1024 bytes
+abbrev pub two_sectors : List ℕ
+two_sectors = dinode_with (inline_directory (own_dinode 17 0) 32) (inline_entries (dots 17 17)) ++ zero_bytes 792
+
+abbrev pub with_two_sectors : Volume
+with_two_sectors = record (small_at (λ b. if b == 17 then two_sectors else [])) { geo = record small_geo { block_bits = 10 } }

@@ -9,5 +9,6 @@ pub mod WholeInodes
 pub mod WholeVolume
 pub mod BackupVolume
 pub mod DirtyVolume
+pub mod OtherVolumes
 pub mod WholeImages
 pub mod HandMadeTree

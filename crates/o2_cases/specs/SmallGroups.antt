@@ -9,9 +9,9 @@ use Rattle.o2_model.specs.declared.allocator.BitUse.TheVariants.{Clusters, Inode
 use Rattle.o2_model.specs.declared.allocator.Group.{Group}
 use Rattle.o2_model.specs.Allocators.{no_slot}
 use Rattle.o2_model.specs.Groups.{GroupWalk}
-use Rattle.o2_model.specs.Volume.{Volume}
+use Rattle.o2_model.specs.Volume.{Volume, over}
 use Rattle.o2_cases.specs.SmallBytes.{zero_bytes}
-use Rattle.o2_cases.specs.SmallVolumes.{small_at}
+use Rattle.o2_cases.specs.SmallVolumes.{large, small_at, small_geo}
 
 -- the global bitmap, in block 40, and an allocator of inodes, in block 41
 abbrev pub bitmap : Allocator
@@ -58,3 +58,12 @@ inode_group block = record { of = inode_allocator; chain = 0; block = block; bit
 -- nothing was met yet
 abbrev pub nothing_met : GroupWalk
 nothing_met = record { groups = []; faults = [] }
+
+-- the same on a volume of 5000 clusters of 1 MiB with backups, whose first group begins block 2048
+abbrev pub with_large_desc : ℕ → GroupDesc → Volume
+with_large_desc block desc = over (large 2048) (λ b. if b == block then desc_bytes desc 0 else [])
+
+-- the same where a cluster has one block of 4096 bytes
+abbrev pub with_plain_desc : ℕ → GroupDesc → Volume
+with_plain_desc block desc =
+    record (with_desc block desc) { geo = record small_geo { block_bits = 12 } }

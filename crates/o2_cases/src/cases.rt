@@ -3,6 +3,7 @@ pub mod allocator_checks;
 pub mod blocks_of_images;
 pub mod directory_checks;
 pub mod entries;
+pub mod extent_trees;
 pub mod extents;
 pub mod groups;
 pub mod hand_made_tree;

@@ -2,7 +2,8 @@
 ghost use Rattle.std.specs.Prelude.{◌≡◌, [], ◌∷◌};
 ghost use Rattle.o2_model.specs.declared.check.Check.TheVariants as check;
 ghost use Rattle.o2_model.specs.Failing.{failing};
-ghost use Rattle.o2_cases.specs.WholeVolume.{with_number};
+ghost use Rattle.o2_cases.specs.WholeVolume.{volume_with, whole_block, with_number, with_number_at};
+ghost use Rattle.o2_cases.specs.OtherVolumes.{changed, two_chain_blocks};
 
 /// A law: a chain that comes back to its group is told at the link. A group that no chain reaches is told at its place, and its chain
 /// then has other sums.
@@ -50,4 +51,45 @@ pub fn wrong_slot_parts()
     ensures window_over_record { failing (with_number 26 0xc0 4 11) ≡ (check.TruncateLog, 27) ∷ (check.ClusterAllocBit, 8) ∷ [] }
     ensures record_claimed { failing (with_number 27 0xc8 4 10) ≡ (check.TruncateLog, 27) ∷ (check.ClusterAllocBit, 8) ∷ [] }
     ensures void_record { failing (with_number 27 0xc8 4 0) ≡ (check.ClusterAllocBit, 8) ∷ [] }
+{}
+
+/// A law: bits up to the last one of a group are looked at, and none behind it.
+pub fn last_bits()
+    ensures last_inode { failing (with_number 16 0x42 1 0x83) ≡ (check.InodeAllocBit, 16) ∷ (check.GroupFreeBits, 16) ∷ [] }
+    ensures behind_inodes { failing (with_number 16 0x43 1 1) ≡ [] }
+    ensures last_block { failing (with_number 40 0x40 1 0x8f) ≡ (check.BlockAllocBit, 40) ∷ (check.GroupFreeBits, 40) ∷ [] }
+    ensures behind_blocks { failing (with_number 40 0x41 1 1) ≡ [] }
+    ensures descriptor_free { failing (with_number 40 0x40 1 0x0e) ≡ (check.BlockAllocBit, 40) ∷ (check.GroupFreeBits, 40) ∷ [] }
+    ensures behind_clusters { failing (with_number 8 0x42 1 1) ≡ [] }
+{}
+
+/// A law: an allocator may have two chains. Each has its number, and the sums of its own groups.
+pub fn two_chains()
+    ensures sound { failing (volume_with two_chain_blocks) ≡ [] }
+    ensures number { failing (changed two_chain_blocks 120 0xe 2 0) ≡ (check.GroupChain, 120) ∷ [] }
+    ensures free { failing (changed two_chain_blocks 20 0xe0 4 8) ≡ (check.ChainBits, 20) ∷ (check.AllocTotals, 20) ∷ [] }
+    ensures total { failing (with_number 19 0xd4 4 17) ≡ (check.ChainBits, 19) ∷ (check.AllocTotals, 19) ∷ [] }
+    ensures no_second { failing (changed two_chain_blocks 20 0xe8 8 0)
+        ≡ (check.InodeClusters, 20) ∷ (check.ClusterAllocBit, 8) ∷ (check.ChainBits, 20) ∷ [] }
+    ensures bad_first { failing (changed two_chain_blocks 20 0xd8 8 40) ≡ (check.Sysfile, 17) ∷ [] }
+    ensures bad_second { failing (changed two_chain_blocks 20 0xe8 8 16)
+        ≡ (check.ChainLink, 20) ∷ (check.InodeClusters, 20) ∷ (check.ClusterAllocBit, 8) ∷ (check.ChainBits, 20) ∷ [] }
+{}
+
+/// A law: a truncate log has no more records than room, and each record is judged by itself, behind those before it.
+pub fn wrong_truncate_logs()
+    ensures header { failing (with_number 27 0xc0 2 0) ≡ (check.TruncateLog, 27) ∷ (check.ClusterAllocBit, 8) ∷ [] }
+    ensures room { failing (with_number 27 0xc0 2 40) ≡ (check.TruncateLog, 27) ∷ (check.ClusterAllocBit, 8) ∷ [] }
+    ensures again { failing (volume_with (with_number_at 27 0xc2 2 2 (with_number_at 27 0xd0 8 0x1_0000_000c whole_block))) ≡ (check.TruncateLog, 27) ∷ [] }
+    ensures behind_bad_one { failing (volume_with (with_number_at 27 0xc2 2 2 (with_number_at 27 0xc8 4 10 (with_number_at 27 0xd0 8 0x1_0000_000c whole_block)))) ≡ (check.TruncateLog, 27) ∷ [] }
+    ensures void_and_good { failing (volume_with (with_number_at 27 0xc2 2 2 (with_number_at 27 0xc8 4 0 (with_number_at 27 0xd0 8 0x1_0000_000c whole_block)))) ≡ [] }
+    ensures not_used { failing (with_number 27 0xd0 8 0x1_0000_000a) ≡ [] }
+{}
+
+/// A law: of a local alloc without a window only the size of the bitmap is asked, and of a window's clear bits that nobody claims them.
+pub fn wrong_windows()
+    ensures large { failing (with_number 26 0xc4 2 305) ≡ (check.LocalAlloc, 26) ∷ (check.ClusterAllocBit, 8) ∷ [] }
+    ensures no_window { failing (volume_with (with_number_at 26 0xb8 8 9 whole_block)) ≡ (check.ClusterAllocBit, 8) ∷ [] }
+    ensures large_without_window { failing (volume_with (with_number_at 26 0xb8 8 0 (with_number_at 26 0xc4 2 305 whole_block))) ≡ (check.LocalAlloc, 26) ∷ (check.ClusterAllocBit, 8) ∷ [] }
+    ensures behind_window { failing (with_number 26 0xd0 1 5) ≡ [] }
 {}

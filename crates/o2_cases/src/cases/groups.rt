@@ -1,10 +1,12 @@
 // Groups of allocators on single cases.
 ghost use Rattle.std.specs.Prelude.{◌≡◌, [], ◌∷◌, true, false};
 ghost use Rattle.o2_ondisk.specs.Signatures.{inode_signature};
-ghost use Rattle.o2_model.specs.Groups.{is_good_group, walk_chain};
+ghost use Rattle.o2_model.specs.declared.allocator.BitUse.TheVariants.{Inodes};
+ghost use Rattle.o2_model.specs.Allocators.{is_sound_chain_size};
+ghost use Rattle.o2_model.specs.Groups.{is_block_group, is_good_group, walk_chain};
 ghost use Rattle.o2_model.specs.Checks.GroupFreeBits.{has_free_bits};
 ghost use Rattle.o2_cases.specs.SmallVolumes.{small_at};
-ghost use Rattle.o2_cases.specs.SmallGroups.{bitmap, bitmap_desc, desc_bytes, inode_allocator, inode_desc, inode_group, nothing_met, two_groups, with_desc};
+ghost use Rattle.o2_cases.specs.SmallGroups.{bitmap, bitmap_desc, desc_bytes, inode_allocator, inode_desc, inode_group, nothing_met, two_groups, with_desc, with_large_desc, with_plain_desc};
 
 /// A law: the group of the global bitmap has its signature, stands at its place, and is of this volume and of this allocator.
 pub fn bitmap_groups_on_cases()
@@ -44,4 +46,28 @@ pub fn chains_on_cases()
 pub fn free_bits_on_cases()
     ensures told { has_free_bits (small_at (λ b. desc_bytes (record (inode_desc 80 0) { free_bits_count = 13 }) 0x8003)) (inode_group 80) ≡ true }
     ensures not_told { has_free_bits (small_at (λ b. desc_bytes (inode_desc 80 0) 0x8003)) (inode_group 80) ≡ false }
+{}
+
+/// A law: a group tells its own block, and has bytes for its bits. The first group of a large volume is full, and the last one has the rest.
+pub fn sizes_of_groups()
+    ensures another_block { is_good_group (with_desc 8 (record bitmap_desc { blkno = 16 })) bitmap [] 8 ≡ false }
+    ensures bytes { is_good_group (with_desc 80 (record (inode_desc 80 0) { size = 2 })) inode_allocator [] 80 ≡ true }
+    ensures few_bytes { is_good_group (with_desc 80 (record (inode_desc 80 0) { size = 1 })) inode_allocator [] 80 ≡ false }
+    ensures no_bits { is_good_group (with_desc 80 (record (inode_desc 80 0) { bits = 0 })) inode_allocator [] 80 ≡ false }
+    ensures full { is_good_group (with_large_desc 2048 (record bitmap_desc { bits = 3584; blkno = 2048 })) bitmap [] 2048 ≡ true }
+    ensures over_full { is_good_group (with_large_desc 2048 (record bitmap_desc { bits = 5000; blkno = 2048 })) bitmap [] 2048 ≡ false }
+    ensures rest { is_good_group (with_large_desc 7340032 (record bitmap_desc { bits = 1416; blkno = 7340032 })) bitmap [] 7340032 ≡ true }
+    ensures more_than_rest { is_good_group (with_large_desc 7340032 (record bitmap_desc { bits = 1417; blkno = 7340032 })) bitmap [] 7340032 ≡ false }
+{}
+
+/// A law: a group of blocks has no cluster of a later group descriptor or of a backup. With a block in each cluster it has two bits or more,
+/// and so have the groups that its allocator tells.
+pub fn fixed_clusters_on_cases()
+    ensures behind_backup { is_good_group (with_large_desc 2099200 (record bitmap_desc { bits = 2048; parent_dinode = 41; blkno = 2099200 })) inode_allocator [] 2099200 ≡ true }
+    ensures on_backup { is_good_group (with_large_desc 2097152 (record bitmap_desc { bits = 2048; parent_dinode = 41; blkno = 2097152 })) inode_allocator [] 2097152 ≡ false }
+    ensures on_descriptor { is_good_group (with_large_desc 7340032 (record bitmap_desc { bits = 2048; parent_dinode = 41; blkno = 7340032 })) inode_allocator [] 7340032 ≡ false }
+    ensures two_bits { is_block_group (with_plain_desc 80 (record (inode_desc 80 0) { bits = 2 })) [] 80 ≡ true }
+    ensures one_bit { is_block_group (with_plain_desc 80 (record (inode_desc 80 0) { bits = 1 })) [] 80 ≡ false }
+    ensures two_blocks { is_sound_chain_size (with_plain_desc 80 (inode_desc 80 0)) Inodes (record { cpg = 2; bpc = 1; count = 1; next_free_rec = 0 }) ≡ true }
+    ensures one_block { is_sound_chain_size (with_plain_desc 80 (inode_desc 80 0)) Inodes (record { cpg = 1; bpc = 1; count = 1; next_free_rec = 0 }) ≡ false }
 {}

@@ -2,7 +2,8 @@
 ghost use Rattle.std.specs.Prelude.{◌≡◌, [], ◌∷◌};
 ghost use Rattle.o2_model.specs.declared.check.Check.TheVariants as check;
 ghost use Rattle.o2_model.specs.Failing.{failing};
-ghost use Rattle.o2_cases.specs.WholeVolume.{with_number};
+ghost use Rattle.o2_cases.specs.WholeVolume.{volume_with, whole_block, with_number, with_number_at};
+ghost use Rattle.o2_cases.specs.OtherVolumes.{changed, two_directory_blocks};
 
 /// A law: an inode has one of the seven kinds, and its entries tell which.
 pub fn wrong_kinds()
@@ -43,4 +44,62 @@ pub fn wrong_clusters()
     ensures of_bitmap { failing (with_number 19 0x14 4 15) ≡ (check.InodeClusters, 19) ∷ [] }
     ensures second_owner { failing (with_number 32 0xd8 8 80) ≡ (check.DupClusters, 29) ∷ (check.DupClusters, 32) ∷ (check.ClusterAllocBit, 8) ∷ [] }
     ensures on_structure { failing (with_number 32 0xd8 8 16) ≡ (check.DupClusters, 32) ∷ (check.ClusterAllocBit, 8) ∷ [] }
+{}
+
+/// A law: devices and sockets have no data, as a fifo has none.
+pub fn kinds_without_data()
+    ensures character { failing (with_number 29 0x28 2 0o20644)
+        ≡ (check.DirentType, 18) ∷ (check.DirentType, 72) ∷ (check.InodeClusters, 29) ∷ (check.BlockAllocBit, 40) ∷ (check.ClusterAllocBit, 8) ∷ [] }
+    ensures block { failing (with_number 29 0x28 2 0o60644)
+        ≡ (check.DirentType, 18) ∷ (check.DirentType, 72) ∷ (check.InodeClusters, 29) ∷ (check.BlockAllocBit, 40) ∷ (check.ClusterAllocBit, 8) ∷ [] }
+    ensures socket { failing (with_number 29 0x28 2 0o140644)
+        ≡ (check.DirentType, 18) ∷ (check.DirentType, 72) ∷ (check.InodeClusters, 29) ∷ (check.BlockAllocBit, 40) ∷ (check.ClusterAllocBit, 8) ∷ [] }
+{}
+
+/// A law: an extent block tells its own number, this volume and its depth. A dinode has room for 19 records, and its leaf records have two
+/// flags at most; those of a directory may be marked as unwritten, and then it has no blocks.
+pub fn wrong_lists()
+    ensures block_number { failing (with_number 41 0x18 8 42) ≡ (check.Extent, 29) ∷ (check.LastEb, 29) ∷ (check.InodeClusters, 29) ∷ (check.BlockAllocBit, 40) ∷ (check.ClusterAllocBit, 8) ∷ [] }
+    ensures generation { failing (with_number 41 0x14 4 6) ≡ (check.Extent, 29) ∷ (check.LastEb, 29) ∷ (check.InodeClusters, 29) ∷ (check.BlockAllocBit, 40) ∷ (check.ClusterAllocBit, 8) ∷ [] }
+    ensures depth { failing (with_number 41 0x30 2 1) ≡ (check.Extent, 29) ∷ (check.LastEb, 29) ∷ (check.InodeClusters, 29) ∷ (check.BlockAllocBit, 40) ∷ (check.ClusterAllocBit, 8) ∷ [] }
+    ensures room { failing (with_number 29 0xc2 2 20) ≡ (check.Extent, 29) ∷ (check.LastEb, 29) ∷ (check.InodeClusters, 29) ∷ (check.BlockAllocBit, 40) ∷ (check.ClusterAllocBit, 8) ∷ [] }
+    ensures flags { failing (with_number 32 0xd7 1 4) ≡ (check.Extent, 32) ∷ (check.InodeClusters, 32) ∷ (check.ClusterAllocBit, 8) ∷ [] }
+    ensures not_written { failing (with_number 32 0xd7 1 1) ≡ [] }
+    ensures directory_not_written { failing (with_number 28 0xd7 1 1)
+        ≡ (check.InodeSize, 28) ∷ (check.Dx, 28) ∷ (check.InodeCount, 18) ∷ (check.InodeCount, 28) ∷ (check.InodeCount, 29) ∷ (check.BlockAllocBit, 40) ∷ [] }
+{}
+
+/// A law: a directory has a block at least, and all its blocks are mapped. Inline data fits its room, and gives no entries where it is longer
+/// than the dinode.
+pub fn wrong_sizes_of_directories()
+    ensures empty { failing (with_number 28 0x20 8 0)
+        ≡ (check.InodeSize, 28) ∷ (check.Dx, 28) ∷ (check.InodeCount, 18) ∷ (check.InodeCount, 28) ∷ (check.InodeCount, 29) ∷ (check.BlockAllocBit, 40) ∷ [] }
+    ensures not_mapped { failing (with_number 28 0x20 8 8192)
+        ≡ (check.InodeSize, 28) ∷ (check.DirBlock, 73) ∷ (check.DirBlock, 74) ∷ (check.DirBlock, 75) ∷ (check.DirBlock, 76) ∷ (check.DirBlock, 77)
+        ∷ (check.DirBlock, 78) ∷ (check.DirBlock, 79) ∷ (check.Dx, 28) ∷ (check.BlockAllocBit, 40) ∷ [] }
+    ensures small_room { failing (with_number 18 0xc0 2 111) ≡ (check.InodeSize, 18) ∷ [] }
+    ensures behind_dinode { failing (volume_with (with_number_at 18 0x20 8 320 (with_number_at 18 304 2 216 whole_block)))
+        ≡ (check.InodeSize, 18) ∷ (check.DirBlock, 18) ∷ (check.NotConnected, 28) ∷ (check.NotConnected, 29) ∷ (check.NotConnected, 30)
+        ∷ (check.NotConnected, 31) ∷ (check.NotConnected, 33) ∷ (check.InodeCount, 18) ∷ [] }
+    ensures two_blocks { failing (volume_with two_directory_blocks) ≡ [] }
+    ensures and_a_byte { failing (changed two_directory_blocks 28 0x20 8 1025) ≡ (check.InodeSize, 28) ∷ [] }
+{}
+
+/// A law: the text of a link fits its dinode, with a NUL behind it, or has a first cluster. A file ends within 2^32 clusters, but one of the
+/// volume's own is not asked.
+pub fn wrong_sizes_of_files()
+    ensures long_text { failing (with_number 33 0x20 8 319) ≡ [] }
+    ensures longer_text { failing (with_number 33 0x20 8 320) ≡ (check.InodeSize, 33) ∷ [] }
+    ensures no_cluster { failing (with_number 33 0x14 4 1) ≡ (check.Extent, 33) ∷ (check.InodeSize, 33) ∷ (check.InodeClusters, 33) ∷ [] }
+    ensures longest { failing (with_number 29 0x20 8 0x1000_0000_0000) ≡ [] }
+    ensures longer { failing (with_number 29 0x20 8 0x1000_0000_0001) ≡ (check.InodeSize, 29) ∷ [] }
+    ensures own { failing (with_number 21 0x20 8 0x1000_0000_0001) ≡ [] }
+{}
+
+/// A law: what has no list has no clusters, but for a local alloc and a truncate log, which are not asked.
+pub fn clusters_without_list()
+    ensures inline { failing (with_number 18 0x14 4 1) ≡ (check.InodeClusters, 18) ∷ [] }
+    ensures no_groups { failing (with_number 24 0x14 4 1) ≡ (check.InodeClusters, 24) ∷ [] }
+    ensures local_alloc { failing (with_number 26 0x14 4 9) ≡ [] }
+    ensures truncate_log { failing (with_number 27 0x14 4 9) ≡ [] }
 {}

@@ -1,8 +1,10 @@
 // What a slot holds of the volume's clusters, on single cases.
 ghost use Rattle.std.specs.Prelude.{◌≡◌, [], ◌∷◌, true, false};
 ghost use Rattle.o2_model.specs.Slots.{is_sound_truncate_header, is_sound_truncation, is_sound_window, is_sound_window_size, truncated_clusters, window_clusters};
+ghost use Rattle.o2_ondisk.specs.Fields.{put_at};
+ghost use Rattle.o2_cases.specs.SmallBytes.{zero_bytes};
 ghost use Rattle.o2_cases.specs.SmallVolumes.{small};
-ghost use Rattle.o2_cases.specs.SmallSlots.{with_truncate_log, with_window};
+ghost use Rattle.o2_cases.specs.SmallSlots.{in_dinode, with_truncate_log, with_window};
 
 /// A law: the clusters of a truncate record are the volume's, and nobody else claims them; a void record has none.
 pub fn truncations_on_cases()
@@ -34,4 +36,14 @@ pub fn windows_on_cases()
     ensures short_bitmap { is_sound_window (with_window 0 4 1) [] 40 ≡ false }
     ensures behind_volume { is_sound_window (with_window 304 81 1) [] 40 ≡ false }
     ensures none { is_sound_window (with_window 304 0 0) [] 40 ≡ true }
+{}
+
+/// A law: a window has no cluster 0, and one without clear bits has no clusters for itself.
+pub fn bounds_of_windows()
+    ensures last { is_sound_window (with_window 304 80 1) [] 40 ≡ true }
+    ensures first_cluster { is_sound_window (in_dinode (put_at 0xbc 4 1 (put_at 0xc4 2 304 (zero_bytes 512)))) [] 40 ≡ false }
+    ensures second_cluster { is_sound_window (in_dinode (put_at 0xbc 4 1 (put_at 0xc0 4 1 (put_at 0xc4 2 304 (zero_bytes 512))))) [] 40 ≡ true }
+    ensures full_bitmap { is_sound_window (with_window 1 8 1) [] 40 ≡ true }
+    ensures short_bitmap { is_sound_window (with_window 1 9 1) [] 40 ≡ false }
+    ensures all_in_use { window_clusters (in_dinode (put_at 0xbc 4 1 (put_at 0xc0 4 7 (put_at 0xc4 2 304 (put_at 0xd0 1 1 (zero_bytes 512)))))) 40 ≡ [] }
 {}

@@ -1,5 +1,5 @@
 // What is read of a whole volume, and that nothing on it fails.
-ghost use Rattle.std.specs.Prelude.{◌≡◌, [], ◌∷◌, ◌++◌, Some, None, true, false, map, length, take, codes};
+ghost use Rattle.std.specs.Prelude.{◌≡◌, ℕ, [], ◌∷◌, ◌++◌, Some, None, true, false, map, length, take, codes};
 ghost use Rattle.o2_model.specs.declared.oddity.Oddity.TheVariants.{Attributes, DioOrphan, DiscontiguousGroup};
 ghost use Rattle.o2_model.specs.declared.system_file.SlotFile.TheVariants.{Journal};
 ghost use Rattle.o2_model.specs.declared.system_file.SystemFile.TheVariants.{GlobalBitmap, Heartbeat, OfSlot};
@@ -9,11 +9,12 @@ ghost use Rattle.o2_model.specs.Allocators.{allocators};
 ghost use Rattle.o2_model.specs.Groups.{group_walk, groups_of, inodes_of, is_inode};
 ghost use Rattle.o2_model.specs.Inodes.{extent_blocks_of, records_of};
 ghost use Rattle.o2_model.specs.Contents.{content_of};
+ghost use Rattle.o2_model.specs.Directories.{directory_entries};
 ghost use Rattle.o2_model.specs.Contents.Content.{Bytes, Entries, Nothing};
 ghost use Rattle.o2_model.specs.Tree.{inode_at, is_met, link_count, met_inodes, tree_directories, tree_walk};
 ghost use Rattle.o2_model.specs.Intact.{intact_paths, is_intact};
 ghost use Rattle.o2_model.specs.AfterReplay.{volume_geometry};
-ghost use Rattle.o2_model.specs.Files.{links_of, shared_references};
+ghost use Rattle.o2_model.specs.Files.{file_of, links_of, shared_references};
 ghost use Rattle.o2_model.specs.Volume.{dinode};
 ghost use Rattle.o2_model.specs.RefcountTrees.{inodes_of_tree, refcount_roots, refcount_tree_blocks};
 ghost use Rattle.o2_model.specs.Metadata.{metadata_blocks};
@@ -22,7 +23,8 @@ ghost use Rattle.o2_model.specs.Owned.{is_owned, owned_blocks};
 ghost use Rattle.o2_model.specs.Structures.{unsupported_structure};
 ghost use Rattle.o2_model.specs.Failing.{failing};
 ghost use Rattle.o2_cases.specs.SmallFiles.{record_of};
-ghost use Rattle.o2_cases.specs.WholeVolume.{volume_with, whole, whole_block, with_number, with_number_at};
+ghost use Rattle.o2_cases.specs.OtherVolumes.{changed, leaf_index_blocks, two_directory_blocks};
+ghost use Rattle.o2_cases.specs.WholeVolume.{volume_with, whole, whole_block, whole_geo, with_number, with_number_at};
 
 /// A law: nothing fails on the whole volume, and it has no structure outside the profile.
 pub fn whole_volume_is_sound()
@@ -157,4 +159,58 @@ pub fn geometry_of_whole()
     ensures clusters { (volume_geometry whole).clusters ≡ 16 }
     ensures journals { (volume_geometry whole).journals ≡ 1 ∷ [] }
     ensures label { take 2 (volume_geometry (with_number 2 0x110 2 0x6176)).label ≡ codes "va" }
+{}
+
+/// A law: of what is outside the profile a group comes before an inode with attributes, and that before an orphan of a direct write; of
+/// several the least. A group of another size has no list.
+pub fn odd_structures_in_order()
+    ensures attributes_first { unsupported_structure (volume_with (with_number_at 29 0x2c 4 0x2001 (with_number_at 30 0x76 2 0x12 whole_block))) ≡ Some (Attributes, 30) }
+    ensures group_first { unsupported_structure (volume_with (with_number_at 28 0x76 2 0xa (with_number_at 40 0x8 2 256 (with_number_at 40 0x144 2 1 whole_block)))) ≡ Some (DiscontiguousGroup, 40) }
+    ensures least { unsupported_structure (volume_with (with_number_at 31 0x76 2 0x12 (with_number_at 30 0x76 2 0x12 whole_block))) ≡ Some (Attributes, 30) }
+    ensures another_size { unsupported_structure (with_number 16 0x144 2 1) ≡ None }
+{}
+
+/// A law: an inode is not intact where its kind, its clusters or its extent blocks are wrong, a directory where a name is, and one that
+/// shares where its tree is.
+pub fn wrong_inodes_are_not_intact()
+    ensures kind { is_intact (with_number 29 0x28 2 0) (codes "f" ∷ []) ≡ false }
+    ensures second_owner { is_intact (with_number 32 0xd8 8 80) (codes "f" ∷ []) ≡ false }
+    ensures another { is_intact (with_number 32 0xd8 8 80) (codes "a" ∷ []) ≡ true }
+    ensures shared_block { is_intact (with_number 31 0x90 8 41) (codes "f" ∷ []) ≡ false }
+    ensures name { is_intact (with_number 18 260 1 0x2f) (codes "a" ∷ []) ≡ false }
+    ensures namesake { is_intact (with_number 18 292 1 0x61) (codes "l" ∷ []) ≡ false }
+    ensures tree { is_intact (with_number 42 0x82 2 2) (codes "a" ∷ []) ≡ false }
+    ensures not_in_tree { is_intact (with_number 42 0x82 2 2) (codes "f" ∷ []) ≡ true }
+{}
+
+/// A law: what a user sees of an inode is read of its fields, and a device of block and character devices alone.
+pub fn fields_of_files()
+    ensures owner { (file_of (with_number 29 0x18 4 7) 29).owner ≡ 7 }
+    ensures group { (file_of (with_number 29 0x1c 4 7) 29).group ≡ 7 }
+    ensures accessed { (file_of (volume_with (with_number_at 29 0x30 8 7 (with_number_at 29 0x64 4 8 whole_block))) 29).accessed ≡ record { seconds = 7; nanoseconds = 8 } }
+    ensures changed { (file_of (volume_with (with_number_at 29 0x38 8 7 (with_number_at 29 0x68 4 8 whole_block))) 29).changed ≡ record { seconds = 7; nanoseconds = 8 } }
+    ensures modified { (file_of (volume_with (with_number_at 29 0x40 8 7 (with_number_at 29 0x6c 4 8 whole_block))) 29).modified ≡ record { seconds = 7; nanoseconds = 8 } }
+    ensures block_device { (file_of (volume_with (with_number_at 30 0x28 2 0o60644 (with_number_at 30 0xb8 8 0x801 whole_block))) 30).device ≡ Some 0x801 }
+    ensures character_device { (file_of (volume_with (with_number_at 30 0x28 2 0o20644 (with_number_at 30 0xb8 8 0x801 whole_block))) 30).device ≡ Some 0x801 }
+    ensures no_device { (file_of (with_number 30 0xb8 8 0x801) 30).device ≡ None }
+{}
+
+/// A law: the volume's identifier and label are read of the superblock.
+pub fn identifier_of_whole()
+    ensures identifier { take 2 (volume_geometry (with_number 2 0x150 2 0x6176)).uuid ≡ codes "va" }
+    ensures label_length { length (volume_geometry whole).label ≡ 64 }
+    ensures identifier_length { length (volume_geometry whole).uuid ≡ 16 }
+    ensures no_second_journal { (volume_geometry (record whole { geo = record whole_geo { slots = 2 } })).journals ≡ 1 ∷ 0 ∷ [] }
+{}
+
+/// A law: an entry tells its block and its place there, or among the inline bytes. Of two entries with one name the first counts.
+pub fn places_of_entries()
+    ensures in_block { map {B = ℕ × ℕ} (λ e. (e.block, e.at)) (directory_entries whole 28) ≡ (72, 0) ∷ (72, 16) ∷ (72, 32) ∷ [] }
+    ensures inline { map {B = ℕ × ℕ} (λ e. (e.block, e.at)) (directory_entries whole 22) ≡ (22, 0) ∷ (22, 16) ∷ (22, 32) ∷ [] }
+    ensures behind_void { map {B = ℕ × ℕ} (λ e. (e.inode, e.at)) (directory_entries (with_number 22 216 8 0) 22) ≡ (22, 0) ∷ (32, 32) ∷ [] }
+    ensures second_block { map {B = ℕ × ℕ} (λ e. (e.block, e.at)) (directory_entries (volume_with two_directory_blocks) 28) ≡ (72, 0) ∷ (72, 16) ∷ (72, 32) ∷ (73, 0) ∷ [] }
+    ensures namesakes { inode_at (with_number 18 292 1 0x61) (codes "a" ∷ []) ≡ Some 30 }
+    ensures names_of_one { met_inodes (with_number 18 292 1 0x61) ≡ 18 ∷ 28 ∷ 29 ∷ 30 ∷ 31 ∷ 33 ∷ [] }
+    ensures index_leaf { is_owned (volume_with leaf_index_blocks) 127 ≡ true }
+    ensures unsound_index { is_owned (changed leaf_index_blocks 43 0x38 4 9) 127 ≡ false }
 {}

@@ -1,5 +1,5 @@
 // Names, bits, numbers in order, revokes and hashes on single cases.
-ghost use Rattle.std.specs.Prelude.{◌≡◌, ◌==◌, ℕ, List, [], ◌∷◌, true, false, codes};
+ghost use Rattle.std.specs.Prelude.{◌≡◌, ◌==◌, ℕ, List, [], ◌∷◌, true, false, codes, replicate};
 ghost use Rattle.o2_ondisk.specs.declared.superblock.DxSeed.{DxSeed};
 ghost use Rattle.o2_model.specs.Orders.{later_like, rising};
 ghost use Rattle.o2_model.specs.Groups.{is_bit_set_in};
@@ -45,4 +45,12 @@ pub fn hashes_on_cases()
     ensures dots { (seed : DxSeed) → name_hash seed (codes "..") ≡ record { major = 0; minor = 0 } }
     ensures short { name_hash (record { first = 1; second = 2; third = 3 }) (codes "lost+found") ≡ record { major = 0x8ef6_095a; minor = 0x27c3_ab27 } }
     ensures long { name_hash (record { first = 1; second = 2; third = 3 }) (codes "a name that is longer than one piece") ≡ record { major = 0xc4c5_735a; minor = 0x390d_fc9d } }
+{}
+
+/// A law: a name has 255 bytes at most, and no NUL.
+pub fn lengths_of_names()
+    ensures longest { is_sound_name (replicate 255 0x61) ≡ true }
+    ensures longer { is_sound_name (replicate 256 0x61) ≡ false }
+    ensures nul { is_sound_name (0x61 ∷ 0 ∷ []) ≡ false }
+    ensures dot { is_sound_name (codes ".") ≡ true }
 {}
