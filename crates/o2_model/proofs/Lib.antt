@@ -29,3 +29,4 @@ pub mod GoodGroups
 pub mod WellRead
 pub mod Owned
 pub mod Kept
+pub mod Stable

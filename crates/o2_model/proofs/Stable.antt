@@ -1,0 +1,3 @@
+-- How few images tell whether a replay may be started again.
+pub mod SameDirectory
+pub mod SameJournal
