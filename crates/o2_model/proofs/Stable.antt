@@ -1,3 +1,5 @@
 -- How few images tell whether a replay may be started again.
 pub mod SameDirectory
 pub mod SameJournal
+pub mod Written
+pub mod CanReplay
