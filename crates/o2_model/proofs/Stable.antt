@@ -3,3 +3,4 @@ pub mod SameDirectory
 pub mod SameJournal
 pub mod Written
 pub mod CanReplay
+pub mod SameRead
