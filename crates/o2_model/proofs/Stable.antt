@@ -4,3 +4,5 @@ pub mod SameJournal
 pub mod Written
 pub mod CanReplay
 pub mod SameRead
+pub mod Alike
+pub mod AlikeParts
