@@ -6,3 +6,4 @@ pub mod CanReplay
 pub mod SameRead
 pub mod Alike
 pub mod AlikeParts
+pub mod TornBlocks
