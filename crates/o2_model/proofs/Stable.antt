@@ -7,3 +7,4 @@ pub mod SameRead
 pub mod Alike
 pub mod AlikeParts
 pub mod TornBlocks
+pub mod SuperKept

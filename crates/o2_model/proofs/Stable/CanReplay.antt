@@ -1,5 +1,5 @@
 -- A volume that can be replayed, where one slot is dirty: its anchors, and what its log writes of them.
-use Rattle.std.proofs.Common.{◌≡◌, ◌⊎◌, inl, inr, ⊎_elim, ℕ, Bool, true, false, cond, ◌||◌, ◌&&◌, not, ◌==◌, List, [], ◌∷◌, ◌++◌, map, refl, sym, ◌∙◌, ap, subst, Option, Some, None, arith}
+use Rattle.std.proofs.Common.{◌≡◌, ◌⊎◌, inl, inr, ⊎_elim, ℕ, ◌≤◌, Bool, true, false, cond, ◌||◌, ◌&&◌, not, ◌==◌, List, [], ◌∷◌, ◌++◌, map, refl, sym, ◌∙◌, ap, subst, Option, Some, None, arith}
 use Rattle.std.specs.Prelude.{flat_map, filter, nat_eq, option_and_then, nat_lt, drop, bytes_eq}
 use Rattle.std.specs.List.{list_any, list_all, Contains, IsDistinct}
 use Rattle.std.specs.Option.{option_map_or}
@@ -146,6 +146,18 @@ module _ (v : Volume) (s j : ℕ) (can : CanReplay v s j) where
 
   pub two_not_sysdir : 2 ≡ v.geo.sysdir → ⊥
   two_not_sysdir = directory_not_two v.geo.sysdir (directory_is_anchor v v.geo.sysdir)
+
+  -- the system directory is none of the first blocks
+  pub sysdir_behind : 3 ≤ v.geo.sysdir
+  unfolding IsDistinct
+  sysdir_behind =
+      let here = among_left (directory_anchors v v.geo.sysdir) (journal_anchors v j) v.geo.sysdir (directory_is_anchor v v.geo.sysdir) in
+      let not_zero = first_apart 0 (1 ∷ 2 ∷ directory_anchors v v.geo.sysdir ++ journal_anchors v j) v.geo.sysdir apart_here (or_right _ _ (or_right _ _ here)) in
+      let not_one = first_apart 1 (2 ∷ directory_anchors v v.geo.sysdir ++ journal_anchors v j) v.geo.sysdir apart_here.1 (or_right _ _ here) in
+      above v.geo.sysdir not_zero not_one two_not_sysdir
+    where
+      above : (n : ℕ) → (0 ≡ n → ⊥) → (1 ≡ n → ⊥) → (2 ≡ n → ⊥) → 3 ≤ n
+      above n a b c = omega arith
 
   pub sysdir_not_journal : v.geo.sysdir ≡ j → ⊥
   sysdir_not_journal = directory_not_journal v.geo.sysdir (directory_is_anchor v v.geo.sysdir)

@@ -44,6 +44,36 @@ block_by_sectors k X Y b each = ext_get_or 0 (block_at (512 * k) X b) (block_at 
     let within : r < 512 * k = omega (arith, h, length-block (512 * k) X b) in
     byte_of_block k X b r within ∙ (ap (λ x. get_or x (r % 512) 0) (each (r / 512) (omega (arith, within))) ∙ sym (byte_of_block k Y b r within)))
 
+-- ---- bytes of a write
+byte_of_piece : (bytes : List ℕ) (r : ℕ) → get_or (piece bytes (r / 512)) (r % 512) 0 ≡ get_or bytes r 0
+byte_of_piece bytes r =
+    let again : 512 * (r / 512) + r % 512 ≡ r = omega arith in
+    get_or-take 512 (drop (512 * (r / 512)) bytes) (r % 512) 0 (omega arith) ∙ (get_or-drop (512 * (r / 512)) bytes (r % 512) 0 ∙ ap (λ n. get_or bytes n 0) again)
+
+behind_first : (xs ys : List ℕ) (r : ℕ) → 512 ≤ r → drop 512 xs ≡ drop 512 ys → get_or xs r 0 ≡ get_or ys r 0
+behind_first xs ys r more same =
+    let again : 512 + (r - 512) ≡ r = omega (arith, more) in
+    sym (get_or-drop 512 xs (r - 512) 0 ∙ ap (λ n. get_or xs n 0) again) ∙ (ap (λ l. get_or l (r - 512) 0) same ∙ (get_or-drop 512 ys (r - 512) 0 ∙ ap (λ n. get_or ys n 0) again))
+
+-- a byte of the first sector, where a write put it
+pub first_byte : (k : ℕ) (X : Image) (b r : ℕ) (bytes : List ℕ) → sector X (k * b) ≡ piece bytes 0 → r < 512 → r < 512 * k → get_or (block_at (512 * k) X b) r 0 ≡ get_or bytes r 0
+first_byte k X b r bytes put early within =
+    let none : k * b + r / 512 ≡ k * b = omega (arith, early) in
+    let zeroth : 0 ≡ r / 512 = omega (arith, early) in
+    byte_of_block k X b r within
+    ∙ (ap (λ n. get_or (sector X n) (r % 512) 0) none ∙ (ap (λ x. get_or x (r % 512) 0) put
+    ∙ (ap (λ n. get_or (piece bytes n) (r % 512) 0) zeroth ∙ byte_of_piece bytes r)))
+
+-- a block whose first sector a write put, and which has the bytes of the write behind it
+pub block_is_write : (k : ℕ) (J X : Image) (b : ℕ) (bytes : List ℕ) → length bytes ≡ 512 * k → sector X (k * b) ≡ piece bytes 0 → drop 512 bytes ≡ drop 512 (block_at (512 * k) J b)
+    → ((r : ℕ) → 512 ≤ r → r < 512 * k → get_or (block_at (512 * k) X b) r 0 ≡ get_or (block_at (512 * k) J b) r 0) → block_at (512 * k) X b ≡ bytes
+block_is_write k J X b bytes whole put keeps rest = ext_get_or 0 (block_at (512 * k) X b) bytes (length-block (512 * k) X b ∙ sym whole) (λ r h.
+    let within : r < 512 * k = omega (arith, h, length-block (512 * k) X b) in
+    elim (cases_lt r 512) [
+      | inl early ↦ first_byte k X b r bytes put early within
+      | inr behind ↦ rest r behind within ∙ sym (behind_first bytes (block_at (512 * k) J b) r behind keeps)
+    ])
+
 -- ---- sectors of different blocks
 pub blocks_apart : (k b c i l : ℕ) → i < k → l < k → k * b + i ≡ k * c + l → b ≡ c
 blocks_apart k b c i l low high same = elim (cases_eq b c) [
@@ -113,13 +143,3 @@ module _ (k : ℕ) (ws : List LoggedBlock) (J V : Image) (torn : IsTornBy k ws J
       (λ old. ap (λ x. get_or x (r % 512) 0) old ∙ sym (byte_of_block k J b r within))
       (λ put. ap (λ x. get_or x (r % 512) 0) put.bytes ∙ (byte_of_piece put.write.bytes r ∙ behind_first put.write.bytes (block_at (512 * k) J b) r behind (keeps put.write put.inside put.at_block)))
       (old_or_put b (r / 512) (omega (arith, within)))
-    where
-      byte_of_piece : (bytes : List ℕ) (r : ℕ) → get_or (piece bytes (r / 512)) (r % 512) 0 ≡ get_or bytes r 0
-      byte_of_piece bytes r =
-          let again : 512 * (r / 512) + r % 512 ≡ r = omega arith in
-          get_or-take 512 (drop (512 * (r / 512)) bytes) (r % 512) 0 (omega arith) ∙ (get_or-drop (512 * (r / 512)) bytes (r % 512) 0 ∙ ap (λ n. get_or bytes n 0) again)
-
-      behind_first : (xs ys : List ℕ) (r : ℕ) → 512 ≤ r → drop 512 xs ≡ drop 512 ys → get_or xs r 0 ≡ get_or ys r 0
-      behind_first xs ys r more same =
-          let again : 512 + (r - 512) ≡ r = omega (arith, more) in
-          sym (get_or-drop 512 xs (r - 512) 0 ∙ ap (λ n. get_or xs n 0) again) ∙ (ap (λ l. get_or l (r - 512) 0) same ∙ (get_or-drop 512 ys (r - 512) 0 ∙ ap (λ n. get_or ys n 0) again))
