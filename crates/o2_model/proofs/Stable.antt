@@ -8,3 +8,4 @@ pub mod Alike
 pub mod AlikeParts
 pub mod TornBlocks
 pub mod SuperKept
+pub mod ChosenImage
