@@ -9,3 +9,4 @@ pub mod AlikeParts
 pub mod TornBlocks
 pub mod SuperKept
 pub mod ChosenImage
+pub mod ChosenVolume

@@ -29,15 +29,6 @@ pub record IsChosen (J F V : Image) (bits k s j : ℕ) : Type 0 where
   pub others : (n : ℕ) → n ≢ k * 2 → n ≢ k * (volume_of J bits).geo.sysdir → sector F n ≡ sector J n
 
 module _ (J F V : Image) (bits k s j : ℕ) (is : IsChosen J F V bits k s j) where
-  v : Volume
-  v = volume_of J bits
-
-  ws : List LoggedBlock
-  ws = committed_writes (volume_of J bits) s
-
-  d : ℕ
-  d = (volume_of J bits).geo.sysdir
-
   -- blocks of one size
   sized : (X Y : Image) (b : ℕ) → block_at (512 * k) X b ≡ block_at (512 * k) Y b → block_at (2 ^ bits) X b ≡ block_at (2 ^ bits) Y b
   sized X Y b same = subst (λ n. block_at n X b ≡ block_at n Y b) (sym is.size) same

@@ -6,6 +6,8 @@ use Rattle.std.proofs.lemmas.Slice.Eq.{bytes_eq-Decides}
 use Rattle.std.proofs.lemmas.List.{ext_get_or, get_or-take, get_or-drop}
 use Rattle.std.proofs.lemmas.List.FromFn.{length-map-range_with_len, get_or-map-range_with_len}
 use Rattle.std.proofs.Math.Nat.{mul-le-mul_left}
+use Rattle.o2_ondisk.specs.Number.{number_at}
+use Rattle.o2_ondisk.proofs.NumberLaws.{number_at-same}
 use Rattle.o2_disk.specs.Image.{Image, sector, sectors_in, piece, byte, block_at}
 use Rattle.o2_disk.proofs.Images.{sector_past}
 use Rattle.o2_model.specs.Logs.{LoggedBlock}
@@ -63,6 +65,21 @@ first_byte k X b r bytes put early within =
     byte_of_block k X b r within
     ∙ (ap (λ n. get_or (sector X n) (r % 512) 0) none ∙ (ap (λ x. get_or x (r % 512) 0) put
     ∙ (ap (λ n. get_or (piece bytes n) (r % 512) 0) zeroth ∙ byte_of_piece bytes r)))
+
+-- a number in the first sector
+pub first_number : (k : ℕ) (X Y : Image) (b at width : ℕ) → 1 ≤ k → at + width ≤ 512 → sector X (k * b) ≡ sector Y (k * b)
+    → number_at at width (block_at (512 * k) X b) ≡ number_at at width (block_at (512 * k) Y b)
+first_number k X Y b at width some fits first = number_at-same at width (block_at (512 * k) X b) (block_at (512 * k) Y b) (λ r low high.
+    let within : r < 512 * k = omega (arith, high, fits, some) in
+    let none : k * b + r / 512 ≡ k * b = omega (arith, high, fits) in
+    byte_of_block k X b r within
+    ∙ (ap (λ n. get_or (sector X n) (r % 512) 0) none ∙ (ap (λ x. get_or x (r % 512) 0) first
+    ∙ (sym (ap (λ n. get_or (sector Y n) (r % 512) 0) none) ∙ sym (byte_of_block k Y b r within)))))
+
+pub first_number_put : (k : ℕ) (X : Image) (b at width : ℕ) (bytes : List ℕ) → 1 ≤ k → at + width ≤ 512 → sector X (k * b) ≡ piece bytes 0
+    → number_at at width (block_at (512 * k) X b) ≡ number_at at width bytes
+first_number_put k X b at width bytes some fits put = number_at-same at width (block_at (512 * k) X b) bytes (λ r low high.
+    first_byte k X b r bytes put (omega (arith, high, fits)) (omega (arith, high, fits, some)))
 
 -- a block whose first sector a write put, and which has the bytes of the write behind it
 pub block_is_write : (k : ℕ) (J X : Image) (b : ℕ) (bytes : List ℕ) → length bytes ≡ 512 * k → sector X (k * b) ≡ piece bytes 0 → drop 512 bytes ≡ drop 512 (block_at (512 * k) J b)
