@@ -10,3 +10,4 @@ pub mod TornBlocks
 pub mod SuperKept
 pub mod ChosenImage
 pub mod ChosenVolume
+pub mod ReplayedSectors

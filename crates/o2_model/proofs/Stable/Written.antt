@@ -33,6 +33,13 @@ not_written ws b none = elim (cases_Bool (writes_to ws b)) [
   | inl written ↦ let one = write_of ws b written in absurd (none one.write one.inside one.at_block)
 ]
 
+pub among_blocks : (ws : List LoggedBlock) (w : LoggedBlock) → Contains ws w → among (map (λ x. x.block) ws) w.block ≡ true
+among_blocks [] w is = absurd (omega (arith, is.1))
+among_blocks (x ∷ ws) w is = elim (contains_cases x w ws is) [
+  | inl same ↦ or_left _ _ (eq-eqb w.block x.block (ap (λ y. y.block) (sym same)))
+  | inr later ↦ or_right _ _ (among_blocks ws w later)
+]
+
 -- ---- the bytes
 pub bytes_kept : (ws : List LoggedBlock) (b : ℕ) (before : List ℕ) → writes_to ws b ≡ false → bytes_after ws b before ≡ before
 bytes_kept [] b before none = refl
