@@ -11,3 +11,5 @@ pub mod SuperKept
 pub mod ChosenImage
 pub mod ChosenVolume
 pub mod ReplayedSectors
+pub mod Choice
+pub mod FourTell

@@ -7,6 +7,7 @@ ghost use Rattle.o2_model.specs.Failing.{faults, failing, Holds};
 ghost use Rattle.o2_model.specs.Consistent.{IsConsistent};
 ghost use Rattle.o2_model.specs.Dirty.{dirty_slots, all_committed_writes};
 ghost use Rattle.o2_model.specs.Replay.{replayed, IsPartialReplay, IsReplayable, IsReplayStable};
+ghost use Rattle.o2_model.specs.FourImages.{HasOneLog, AreFourReplayable};
 
 /// A law: where no pair fails, each check holds at each block.
 pub fn each_check_holds()
@@ -35,4 +36,10 @@ pub fn stable_image_can_be_replayed()
 /// A law: a replay keeps the number of sectors.
 pub fn replay_keeps_length()
     ensures { (I : Image) → length (replayed I) ≡ length I }
+{}
+
+/// A law: where one slot is dirty and its log writes each block once, four images tell that a replay may be stopped and started
+/// again.
+pub fn four_images_tell_stability()
+    ensures { (I : Image) (v : Volume) (slot journal : ℕ) → HasOneLog I v slot journal → AreFourReplayable I v → IsReplayStable I }
 {}

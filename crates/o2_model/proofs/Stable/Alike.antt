@@ -1,27 +1,15 @@
 -- Two volumes whose numbers of clusters and slots may differ: where neither reading has a fault, blocks that agree give the same
 -- extents.
-use Rattle.std.proofs.Common.{◌≡◌, inl, inr, ℕ, zero, suc, ◌+◌, Bool, true, false, cond, not, ◌==◌, List, [], ◌∷◌, ◌++◌, map, refl, sym, ◌∙◌, ap, subst, Option, Some, None}
-use Rattle.std.specs.Prelude.{flat_map, filter, slice_get}
-use Rattle.std.specs.Option.{option_map_or}
-use Rattle.std.proofs.lemmas.Bool.{cases_Bool, or_right, or_left, eq-eqb}
+use Rattle.std.proofs.Common.{◌≡◌, inl, inr, ℕ, zero, suc, ◌+◌, true, ◌==◌, List, [], ◌∷◌, refl, sym, ◌∙◌, ap}
+use Rattle.std.proofs.lemmas.Bool.{cases_Bool, or_right}
 use Rattle.o2_ondisk.specs.declared.extent_rec.ExtentRec.{ExtentRec}
 use Rattle.o2_model.specs.Words.{among}
-use Rattle.o2_model.specs.Orders.{from_to}
-use Rattle.o2_model.specs.Volume.{Volume, over, block_size, per_cluster, dinode}
+use Rattle.o2_model.specs.Volume.{Volume}
 use Rattle.o2_model.specs.Frames.{SameOn}
-use Rattle.o2_model.specs.Extents.{Extents, leaf_clusters, list_in_block, with_leaf, with_seen, end_of, is_sound_header, is_extent_block, is_sound_leaf, names_new_block, with_met, records_in_block, read_records, read_list, nothing_read, extent_list}
-use Rattle.o2_model.specs.Inodes.{is_directory, is_inline, extents, leaf_records, extent_blocks_of, has_list, most_flags, most_in_dinode}
-use Rattle.o2_model.specs.Directories.{mapped, is_written, dir_blocks, entries_of_block, directory_entries}
-use Rattle.o2_model.specs.LeafRecords.{blocks_under}
-use Rattle.o2_model.specs.Journals.{journal_blocks, journal_block, journal_super}
-use Rattle.o2_model.specs.Logs.{log_blocks, log_in}
-use Rattle.o2_model.specs.Anchors.{directory_anchors, journal_anchors}
-use Rattle.o2_model.proofs.Readings.{push_some, reading_grows, met_seen, among_last, same_on_before, extents_same}
-use Rattle.o2_model.proofs.WellRead.{extents_well, extent_blocks_are}
-use Rattle.o2_model.proofs.SameEntries.{dir_blocks_same}
-use Rattle.o2_model.proofs.Agreeing.{map_agree, option_agree}
-use Rattle.o2_model.proofs.Stable.SameDirectory.{looked_at_is_anchor, directory_is_anchor, dir_block_is_anchor, among_left, among_right, among_first}
-use Rattle.o2_model.proofs.Stable.SameJournal.{among_got}
+use Rattle.o2_model.specs.Extents.{Extents, leaf_clusters, with_leaf, with_seen, end_of, is_sound_header, is_extent_block, is_sound_leaf, names_new_block, with_met, records_in_block, read_records, read_list, nothing_read, extent_list}
+use Rattle.o2_model.specs.Inodes.{is_directory, extents, has_list, most_flags, most_in_dinode}
+use Rattle.o2_model.proofs.Readings.{push_some, reading_grows, met_seen, among_last, same_on_before}
+use Rattle.o2_model.proofs.Stable.SameDirectory.{among_first}
 
 -- The two volumes have blocks and clusters of one size, and one generation.
 pub record SameSizes (v u : Volume) : Type 0 where

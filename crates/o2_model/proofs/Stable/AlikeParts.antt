@@ -1,17 +1,16 @@
 -- Two volumes whose numbers of clusters and slots may differ: where neither reading has a fault, blocks that agree on its anchors give
 -- the same entries of a directory, and the same log of a journal.
-use Rattle.std.proofs.Common.{◌≡◌, inl, inr, ℕ, ◌*◌, ◌^◌, ◌-◌, Bool, true, false, List, [], ◌∷◌, ◌++◌, map, refl, sym, ◌∙◌, ap, Option, Some, None}
-use Rattle.std.specs.Prelude.{flat_map, filter, slice_get}
+use Rattle.std.proofs.Common.{◌≡◌, ℕ, ◌*◌, [], ◌∷◌, ◌++◌, refl, sym, ◌∙◌, ap}
+use Rattle.std.specs.Prelude.{flat_map, slice_get}
 use Rattle.std.specs.List.{range_with_len}
 use Rattle.std.specs.Option.{option_map_or}
-use Rattle.std.proofs.lemmas.Bool.{cases_Bool}
 use Rattle.o2_model.specs.Words.{among}
 use Rattle.o2_model.specs.Orders.{from_to}
 use Rattle.o2_model.specs.Volume.{Volume, over, per_cluster}
 use Rattle.o2_model.specs.Frames.{SameOn}
 use Rattle.o2_model.specs.Extents.{leaf_clusters}
-use Rattle.o2_model.specs.Inodes.{is_inline, extents, leaf_records, extent_blocks_of}
-use Rattle.o2_model.specs.Directories.{is_written, dir_blocks, entries_of_block, directory_entries}
+use Rattle.o2_model.specs.Inodes.{extents, leaf_records, extent_blocks_of}
+use Rattle.o2_model.specs.Directories.{dir_blocks, entries_of_block, directory_entries}
 use Rattle.o2_model.specs.LeafRecords.{blocks_under}
 use Rattle.o2_model.specs.Journals.{journal_blocks, journal_block, journal_super}
 use Rattle.o2_model.specs.Logs.{log_blocks, log_in}

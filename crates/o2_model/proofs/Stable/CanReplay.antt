@@ -1,7 +1,7 @@
 -- A volume that can be replayed, where one slot is dirty: its anchors, and what its log writes of them.
-use Rattle.std.proofs.Common.{◌≡◌, ◌⊎◌, inl, inr, ⊎_elim, ℕ, ◌≤◌, Bool, true, false, cond, ◌||◌, ◌&&◌, not, ◌==◌, List, [], ◌∷◌, ◌++◌, map, refl, sym, ◌∙◌, ap, subst, Option, Some, None, arith}
+use Rattle.std.proofs.Common.{◌≡◌, ◌⊎◌, inl, inr, ⊎_elim, ℕ, ◌≤◌, Bool, true, false, ◌||◌, ◌&&◌, not, ◌==◌, List, [], ◌∷◌, ◌++◌, map, refl, sym, ◌∙◌, ap, subst, Option, Some, None, arith}
 use Rattle.std.specs.Prelude.{flat_map, filter, nat_eq, option_and_then, nat_lt, drop, bytes_eq}
-use Rattle.std.specs.List.{list_any, list_all, Contains, IsDistinct}
+use Rattle.std.specs.List.{list_all, Contains, IsDistinct}
 use Rattle.std.specs.Option.{option_map_or}
 use Rattle.std.proofs.lemmas.Bool.{cases_Bool, or_left, or_right, or_cases, and_parts, eq-eqb, eqb-true, false≢true}
 use Rattle.std.proofs.lemmas.List.{append-nil}
@@ -12,10 +12,10 @@ use Rattle.o2_model.specs.declared.system_file.SystemFile.TheVariants.{OfSlot}
 use Rattle.o2_model.specs.Words.{among, fails_unless}
 use Rattle.o2_model.specs.Orders.{first_of}
 use Rattle.o2_model.specs.Frames.{SameOn}
-use Rattle.o2_model.specs.Volume.{Volume, over}
+use Rattle.o2_model.specs.Volume.{Volume}
 use Rattle.o2_model.specs.Inodes.{extents}
 use Rattle.o2_model.specs.Directories.{directory_entries}
-use Rattle.o2_model.specs.SystemFiles.{system_inode, slots}
+use Rattle.o2_model.specs.SystemFiles.{slots}
 use Rattle.o2_model.specs.Journals.{named_journal, is_dirty}
 use Rattle.o2_model.specs.Logs.{LoggedBlock}
 use Rattle.o2_model.specs.Dirty.{is_journal, journal_if, slot_journal, is_dirty_slot, dirty_slots, journal_part_fault, slot_fault, journal_fault, committed_writes, all_committed_writes, bytes_after, as_logged}
@@ -205,14 +205,14 @@ module _ (v : Volume) (s j : ℕ) (can : CanReplay v s j) where
       record {
         kept = (bytes_eq-Decides _ _).0 parts.0;
         on_super = λ at. ⊎_elim
-          (λ early. ⊎_elim (λ is. is) (λ other. absurd (two (sym at ∙ directory_at w other))) (or_cases (is_super_change v w) _ early))
-          (λ late. absurd (own (sym at ∙ journal_at w late))) which;
+            (λ early. ⊎_elim (λ is. is) (λ other. absurd (two (sym at ∙ directory_at w other))) (or_cases (is_super_change v w) _ early))
+            (λ late. absurd (own (sym at ∙ journal_at w late))) which;
         on_directory = λ at. ⊎_elim
-          (λ early. ⊎_elim (λ other. absurd (two (sym (super_at w other) ∙ at))) (λ is. is) (or_cases (is_super_change v w) _ early))
-          (λ late. absurd (directory (sym at ∙ journal_at w late))) which;
+            (λ early. ⊎_elim (λ other. absurd (two (sym (super_at w other) ∙ at))) (λ is. is) (or_cases (is_super_change v w) _ early))
+            (λ late. absurd (directory (sym at ∙ journal_at w late))) which;
         where_to = λ b at. ⊎_elim
-          (λ early. ⊎_elim (λ is. inl (sym at ∙ super_at w is)) (λ is. inr (inl (sym at ∙ directory_at w is))) (or_cases (is_super_change v w) _ early))
-          (λ late. inr (inr (sym at ∙ journal_at w late))) which;
+            (λ early. ⊎_elim (λ is. inl (sym at ∙ super_at w is)) (λ is. inr (inl (sym at ∙ directory_at w is))) (or_cases (is_super_change v w) _ early))
+            (λ late. inr (inr (sym at ∙ journal_at w late))) which;
       }
 
   pub anchor_write : (w : LoggedBlock) → Contains (committed_writes v s) w → is_anchor v w.block ≡ true → IsAllowedKind v j w
@@ -224,8 +224,8 @@ module _ (v : Volume) (s j : ℕ) (can : CanReplay v s j) where
   -- of an anchor that is none of the three, nothing is written
   pub anchor_not_written : (b : ℕ) → is_anchor v b ≡ true → (b ≡ 2 → ⊥) → (b ≡ v.geo.sysdir → ⊥) → (b ≡ j → ⊥) → writes_to (committed_writes v s) b ≡ false
   anchor_not_written b anchor not_two not_sysdir not_journal = not_written (committed_writes v s) b (λ w is same.
-    let kind = anchor_write w is (subst (λ x. is_anchor v x ≡ true) (sym same) anchor) in
-    ⊎_elim not_two (λ more. ⊎_elim not_sysdir not_journal more) (kind.where_to b same))
+      let kind = anchor_write w is (subst (λ x. is_anchor v x ≡ true) (sym same) anchor) in
+      ⊎_elim not_two (λ more. ⊎_elim not_sysdir not_journal more) (kind.where_to b same))
 
   -- ---- the directory as the logs leave it
   pub logged_at : (b : ℕ) → (as_logged v).at b ≡ bytes_after (committed_writes v s) b (v.at b)
@@ -237,7 +237,7 @@ module _ (v : Volume) (s j : ℕ) (can : CanReplay v s j) where
     same = λ b h. ap (λ ws. bytes_after ws b (v.at b)) all_writes ∙ bytes_kept (committed_writes v s) b (v.at b) (elim (cases_Bool (b == v.geo.sysdir)) [
       | inl is ↦ ap (writes_to (committed_writes v s)) (eqb-true b v.geo.sysdir is) ∙ none
       | inr other ↦ anchor_not_written b (directory_block_is_anchor b h) (λ e. directory_not_two b h (sym e)) (λ e. absurd (false≢true (sym other ∙ eq-eqb b v.geo.sysdir e))) (directory_not_journal b h)
-    ])
+    ]);
   }
 
   pub logged_entries_kept : writes_to (committed_writes v s) v.geo.sysdir ≡ false → directory_entries (as_logged v) v.geo.sysdir ≡ directory_entries v v.geo.sysdir

@@ -1,18 +1,18 @@
 -- A torn image, and the image that has its first sectors of block 2 and of the system directory and else the old sectors: both have
 -- the same blocks wherever the log writes nothing, and the superblock is found in both as before.
-use Rattle.std.proofs.Common.{◌≡◌, ◌≢◌, ◌⊎◌, inl, inr, ⊎_elim, ℕ, ◌+◌, ◌*◌, ◌/◌, ◌%◌, ◌^◌, ◌<◌, ◌≤◌, true, false, List, [], ◌∷◌, length, drop, get_or, refl, sym, ◌∙◌, ap, subst, arith, Some}
+use Rattle.std.proofs.Common.{◌≡◌, ◌≢◌, ◌⊎◌, inl, inr, ℕ, ◌+◌, ◌*◌, ◌/◌, ◌%◌, ◌^◌, ◌<◌, ◌≤◌, true, false, length, drop, get_or, refl, sym, ◌∙◌, ap, subst, arith, Some}
 use Rattle.std.specs.List.{Contains}
 use Rattle.std.proofs.Math.Nat.{mul-le-mul_left}
 use Rattle.o2_disk.specs.Image.{Image, sector, block_at}
 use Rattle.o2_model.specs.Superblock.{superblock_bits}
-use Rattle.o2_model.specs.Volume.{Volume, volume_of}
+use Rattle.o2_model.specs.Volume.{volume_of}
 use Rattle.o2_model.specs.Logs.{LoggedBlock}
 use Rattle.o2_model.specs.Dirty.{committed_writes}
-use Rattle.o2_model.specs.Anchors.{is_anchor, directory_anchors}
+use Rattle.o2_model.specs.Anchors.{is_anchor}
 use Rattle.o2_model.proofs.Stable.SameDirectory.{directory_is_anchor}
 use Rattle.o2_model.proofs.Stable.Written.{writes_to}
 use Rattle.o2_model.proofs.Stable.CanReplay as sound
-use Rattle.o2_model.proofs.Stable.TornBlocks.{IsTornBy, PutBy, byte_of_block, length-block, block_by_first, block_by_sectors, block_is_write, blocks_apart, old_or_put, block_kept, rest_kept}
+use Rattle.o2_model.proofs.Stable.TornBlocks.{IsTornBy, byte_of_block, length-block, block_by_first, block_by_sectors, block_is_write, blocks_apart, old_or_put, block_kept, rest_kept}
 use Rattle.o2_model.proofs.Stable.SuperKept.{SuperKept, kept_itself, super_change_keeps, bits_alike}
 
 -- J is an image with one dirty slot, V what a torn replay left of it, and F the image J with the first sectors of V in two places.

@@ -1,5 +1,5 @@
 -- Where the image with the first sectors of a torn one can be replayed, so can the torn one.
-use Rattle.std.proofs.Common.{◌≡◌, ◌⊎◌, inl, inr, ⊎_elim, ℕ, ◌*◌, ◌+◌, ◌^◌, Bool, true, false, ◌==◌, List, [], ◌∷◌, ◌++◌, map, refl, sym, ◌∙◌, ap, subst, arith, Option, Some}
+use Rattle.std.proofs.Common.{◌≡◌, ◌⊎◌, inl, inr, ⊎_elim, ℕ, ◌*◌, ◌+◌, ◌^◌, true, false, List, [], ◌∷◌, map, refl, sym, ◌∙◌, ap, subst, arith, Some}
 use Rattle.std.specs.Prelude.{nat_eq, find, option_map}
 use Rattle.std.specs.List.{Contains, IsDistinct}
 use Rattle.std.specs.Option.{option_map_or}
@@ -10,7 +10,6 @@ use Rattle.o2_disk.specs.Image.{Image, sector, block_at}
 use Rattle.o2_model.specs.declared.system_file.SlotFile.TheVariants.{Journal}
 use Rattle.o2_model.specs.declared.system_file.SystemFile.{SystemFile}
 use Rattle.o2_model.specs.declared.system_file.SystemFile.TheVariants.{OfSlot}
-use Rattle.o2_model.specs.Words.{among}
 use Rattle.o2_model.specs.Frames.{SameOn}
 use Rattle.o2_model.specs.Volume.{Volume, over, volume_of}
 use Rattle.o2_model.specs.Inodes.{extents}
@@ -20,14 +19,13 @@ use Rattle.o2_model.specs.Journals.{named_journal, is_dirty}
 use Rattle.o2_model.specs.Logs.{LoggedBlock, log_in, unrevoked}
 use Rattle.o2_model.specs.Dirty.{committed_writes, log_of, bytes_after, as_logged}
 use Rattle.o2_model.specs.Anchors.{is_anchor, directory_anchors, journal_anchors}
-use Rattle.o2_model.specs.Checks.Sysdir.{is_sound_directory}
-use Rattle.o2_model.proofs.Stable.SameDirectory.{directory_is_anchor, among_left, among_right, among_first, sound_extents, system_inode_same}
+use Rattle.o2_model.proofs.Stable.SameDirectory.{directory_is_anchor, among_left, among_right, sound_extents}
 use Rattle.o2_model.proofs.Stable.Written.{writes_to, writes_there, bytes_kept, bytes_put, bytes_of_write}
 use Rattle.o2_model.proofs.Stable.CanReplay as sound
 use Rattle.o2_model.proofs.Stable.SameRead.{SameRead}
 use Rattle.o2_model.proofs.Stable.Alike.{SameSizes}
 use Rattle.o2_model.proofs.Stable.AlikeParts.{entries_alike, log_alike}
-use Rattle.o2_model.proofs.Stable.TornBlocks.{PutBy, old_or_put, first_number, first_number_put}
+use Rattle.o2_model.proofs.Stable.TornBlocks.{old_or_put, first_number, first_number_put}
 use Rattle.o2_model.proofs.Stable.ChosenImage
 
 -- by the same entries, the same names
@@ -76,8 +74,8 @@ module _ (J F V : Image) (bits k s j : ℕ) (is : ChosenImage.IsChosen J F V bit
   journal_on : SameOn (journal_anchors v j) v u.at
   journal_on = record {
     same = λ b h. other b
-      (λ e. sound.journal_apart v s j is.can 2 b (among_left (0 ∷ 1 ∷ 2 ∷ []) (directory_anchors v v.geo.sysdir) 2 refl) h (sym e))
-      (λ e. sound.journal_apart v s j is.can v.geo.sysdir b (among_right (0 ∷ 1 ∷ 2 ∷ []) (directory_anchors v v.geo.sysdir) v.geo.sysdir (directory_is_anchor v v.geo.sysdir)) h (sym e))
+        (λ e. sound.journal_apart v s j is.can 2 b (among_left (0 ∷ 1 ∷ 2 ∷ []) (directory_anchors v v.geo.sysdir) 2 refl) h (sym e))
+        (λ e. sound.journal_apart v s j is.can v.geo.sysdir b (among_right (0 ∷ 1 ∷ 2 ∷ []) (directory_anchors v v.geo.sysdir) v.geo.sysdir (directory_is_anchor v v.geo.sysdir)) h (sym e));
   }
 
   pub writes_alike : committed_writes u s ≡ committed_writes v s
@@ -130,21 +128,25 @@ module _ (J F V : Image) (bits k s j : ℕ) (is : ChosenImage.IsChosen J F V bit
 
   -- the old directory
   old_names : u.at v.geo.sysdir ≡ v.at v.geo.sysdir → directory_entries u v.geo.sysdir ≡ directory_entries v v.geo.sysdir
-  old_names old = entries_alike v u sizes v.geo.sysdir (record { same = λ b h. elim (cases_eq b v.geo.sysdir) [
-    | inl here ↦ subst (λ c. u.at c ≡ v.at c) (sym here) old
-    | inr not_sysdir ↦ other b (λ e. sound.directory_not_two v s j is.can b h (sym e)) not_sysdir
-  ] }) (sound.directory_extents v s j is.can) extents_here
+  old_names old = entries_alike v u sizes v.geo.sysdir (record {
+    same = λ b h. elim (cases_eq b v.geo.sysdir) [
+      | inl here ↦ subst (λ c. u.at c ≡ v.at c) (sym here) old
+      | inr not_sysdir ↦ other b (λ e. sound.directory_not_two v s j is.can b h (sym e)) not_sysdir
+    ];
+  }) (sound.directory_extents v s j is.can) extents_here
 
   -- the new one
   new_names : writes_to (committed_writes v s) v.geo.sysdir ≡ true → u.at v.geo.sysdir ≡ (as_logged v).at v.geo.sysdir → directory_entries (as_logged v) u.geo.sysdir ≡ directory_entries u u.geo.sysdir
-  new_names written new = entries_alike u (as_logged v) (sizes_of_logged v u sizes) u.geo.sysdir (record { same = λ b h. elim (cases_eq b v.geo.sysdir) [
-    | inl here ↦ subst (λ c. (as_logged v).at c ≡ u.at c) (sym here) (sym new)
-    | inr not_sysdir ↦
-        let none : writes_to (committed_writes v s) b ≡ false
-        = ap (λ ws. writes_to ws b) (sym writes_alike) ∙ sound.anchor_not_written u s j can b (sound.directory_block_is_anchor u s j can b h)
-        (λ e. sound.directory_not_two u s j can b h (sym e)) (λ e. not_sysdir (e ∙ place)) (sound.directory_not_journal u s j can b h) in
-        sound.logged_at v s j is.can b ∙ (bytes_kept (committed_writes v s) b (v.at b) none ∙ (sym (ChosenImage.torn_kept J F V bits k s j is b none) ∙ unwritten_same b none))
-  ] }) (sound.directory_extents u s j can)
+  new_names written new = entries_alike u (as_logged v) (sizes_of_logged v u sizes) u.geo.sysdir (record {
+    same = λ b h. elim (cases_eq b v.geo.sysdir) [
+      | inl here ↦ subst (λ c. (as_logged v).at c ≡ u.at c) (sym here) (sym new)
+      | inr not_sysdir ↦
+          let none : writes_to (committed_writes v s) b ≡ false
+          = ap (λ ws. writes_to ws b) (sym writes_alike) ∙ sound.anchor_not_written u s j can b (sound.directory_block_is_anchor u s j can b h)
+          (λ e. sound.directory_not_two u s j can b h (sym e)) (λ e. not_sysdir (e ∙ place)) (sound.directory_not_journal u s j can b h) in
+          sound.logged_at v s j is.can b ∙ (bytes_kept (committed_writes v s) b (v.at b) none ∙ (sym (ChosenImage.torn_kept J F V bits k s j is b none) ∙ unwritten_same b none))
+    ];
+  }) (sound.directory_extents u s j can)
       (subst (λ d. (extents (as_logged v) d).faults ≡ []) (sym place) (sound_extents (as_logged v) v.geo.sysdir (sound.directory_change v s j is.can written).0))
 
   -- ---- where each block is written once

@@ -1,13 +1,10 @@
 -- The first sector of a block that the log writes, as the replay leaves it.
-use Rattle.std.proofs.Common.{◌≡◌, ◌≢◌, inl, inr, ℕ, ◌+◌, ◌-◌, ◌*◌, ◌/◌, ◌<◌, ◌≤◌, true, false, List, [], ◌∷◌, map, length, refl, sym, ◌∙◌, ap, subst, arith, Some}
+use Rattle.std.proofs.Common.{◌≡◌, inl, inr, ℕ, ◌+◌, ◌-◌, ◌*◌, ◌<◌, ◌≤◌, List, [], ◌∷◌, map, length, refl, sym, ◌∙◌, ap, subst, arith, Some}
 use Rattle.std.specs.Prelude.{fold, nat_eq}
 use Rattle.std.specs.List.{Contains, IsDistinct}
 use Rattle.std.specs.Option.{option_map_or}
-use Rattle.std.proofs.lemmas.Bool.{cases_Bool, cases_eq, cases_lt, false≢true, or_right}
-use Rattle.o2_ondisk.specs.Number.{number_at}
-use Rattle.o2_ondisk.specs.Fields.{put_at}
 use Rattle.o2_ondisk.proofs.TableLaws.{length-put_at}
-use Rattle.o2_disk.specs.Image.{Image, sector, sectors_in, piece, written, block_at, InRange}
+use Rattle.o2_disk.specs.Image.{Image, sector, piece, block_at}
 use Rattle.o2_disk.proofs.Images.{length-written, sector-written_in, sector-written_other}
 use Rattle.o2_model.specs.Volume.{Volume, block_size, opened}
 use Rattle.o2_model.specs.Logs.{LoggedBlock}
@@ -15,7 +12,7 @@ use Rattle.o2_model.specs.Dirty.{dirty_slots, slot_journal, committed_writes}
 use Rattle.o2_model.specs.Replay.{first_sector, with_block, as_clean, with_clean_journal, replay_slot, replay_all, replayed}
 use Rattle.o2_model.proofs.Found.{contains_first, contains_later}
 use Rattle.o2_model.proofs.Members.{contains_cases}
-use Rattle.o2_model.proofs.Stable.Written.{writes_to, writes_there, not_written, first_apart, among_blocks}
+use Rattle.o2_model.proofs.Stable.Written.{first_apart, among_blocks}
 use Rattle.o2_model.proofs.Stable.TornBlocks.{blocks_apart, length-block}
 
 pub first_sector_is : (k b : ℕ) → first_sector (512 * k) b ≡ k * b

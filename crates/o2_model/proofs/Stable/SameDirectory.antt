@@ -1,25 +1,21 @@
 -- Blocks that agree on a directory's anchors have the same directory: extents, blocks, entries, and what is asked of it.
-use Rattle.std.proofs.Common.{◌≡◌, ◌⊎◌, inl, inr, ⊎_elim, ℕ, Bool, true, false, ◌||◌, ◌&&◌, not, ◌==◌, List, [], ◌∷◌, ◌++◌, map, refl, sym, ◌∙◌, ap, subst, Option, Some}
-use Rattle.std.proofs.lemmas.Bool.{cases_Bool, or_left, or_right, or_cases, and_parts, eq-eqb, false≢true, and_right}
+use Rattle.std.proofs.Common.{◌≡◌, ◌⊎◌, inl, inr, ℕ, Bool, true, false, ◌&&◌, not, ◌==◌, List, [], ◌∷◌, ◌++◌, map, refl, sym, ◌∙◌, ap}
+use Rattle.std.proofs.lemmas.Bool.{cases_Bool, or_left, or_right, or_cases, and_parts, eq-eqb, false≢true}
 use Rattle.std.proofs.lemmas.List.Folds.{list_any-append}
-use Rattle.std.specs.List.{list_any}
-use Rattle.o2_ondisk.specs.declared.kind.Kind.{Kind}
-use Rattle.o2_ondisk.specs.declared.kind.Kind.TheVariants as of_kind
 use Rattle.o2_ondisk.specs.Bits.{has_bits}
 use Rattle.o2_model.specs.declared.system_file.SystemFile.{SystemFile}
-use Rattle.o2_model.specs.Words.{among, fails_unless, fails_at}
+use Rattle.o2_model.specs.Words.{among}
 use Rattle.o2_model.specs.Orders.{is_none_of}
 use Rattle.o2_model.specs.Frames.{SameOn}
 use Rattle.o2_model.specs.Volume.{Volume, over, dinode, is_valid}
 use Rattle.o2_model.specs.Extents.{nothing_read}
-use Rattle.o2_model.specs.Inodes.{extents, leaf_records, is_inline, has_list, holds_list, has_data, has_fast_text, no_list_flags, is_directory, kind, extent_lists_of, extent_blocks_of}
+use Rattle.o2_model.specs.Inodes.{extents, is_inline, has_list, holds_list, has_data, has_fast_text, no_list_flags, is_directory, kind, extent_blocks_of}
 use Rattle.o2_model.specs.Directories.{dir_blocks, directory_entries, own_inodes}
 use Rattle.o2_model.specs.SystemFiles.{system_inode}
 use Rattle.o2_model.specs.Anchors.{directory_anchors}
 use Rattle.o2_model.specs.Checks.Extent.{extent_faults}
 use Rattle.o2_model.specs.Checks.InodeSize.{has_sound_size, inode_size_faults, is_size_of_kind}
-use Rattle.o2_model.specs.Checks.DirBlock.{is_sound_dir_block, dir_block_faults}
-use Rattle.o2_model.specs.Checks.DirentName.{dirent_name_faults}
+use Rattle.o2_model.specs.Checks.DirBlock.{dir_block_faults}
 use Rattle.o2_model.specs.Checks.DirentDup.{dirent_dup_faults}
 use Rattle.o2_model.specs.Checks.Sysdir.{directory_faults, is_sound_directory}
 use Rattle.o2_model.proofs.Readings.{extents_same, faults_of_own_list}

@@ -1,20 +1,18 @@
 -- Blocks that agree on a journal's anchors have the same journal: extents, blocks, what is wrong with it, and its log.
-use Rattle.std.proofs.Common.{◌≡◌, inl, inr, ℕ, zero, suc, Bool, true, false, ◌||◌, ◌&&◌, not, ◌==◌, List, [], ◌∷◌, ◌++◌, map, refl, sym, ◌∙◌, ap, Option, Some, None}
+use Rattle.std.proofs.Common.{◌≡◌, inl, inr, ℕ, zero, suc, true, ◌&&◌, not, List, [], ◌∷◌, ◌++◌, refl, sym, ◌∙◌, ap, Some, None}
 use Rattle.std.specs.Prelude.{flat_map, slice_get}
-use Rattle.std.specs.List.{list_any}
 use Rattle.std.specs.Option.{option_map_or}
 use Rattle.std.proofs.lemmas.Bool.{cases_Bool, or_left, or_right, and_parts, eq-eqb, false≢true}
 use Rattle.o2_ondisk.specs.JournalSupers.{journal_super_of}
-use Rattle.o2_model.specs.declared.journal_part.JournalPart.{JournalPart}
 use Rattle.o2_model.specs.declared.journal_part.JournalPart.TheVariants as part
 use Rattle.o2_model.specs.Words.{among}
 use Rattle.o2_model.specs.Orders.{is_none_of, from_to}
 use Rattle.o2_model.specs.Frames.{SameOn}
 use Rattle.o2_model.specs.Volume.{Volume, over, is_valid}
 use Rattle.o2_model.specs.Inodes.{extents, leaf_records, extent_blocks_of}
-use Rattle.o2_model.specs.LeafRecords.{blocks_under, are_without_gap}
+use Rattle.o2_model.specs.LeafRecords.{blocks_under}
 use Rattle.o2_model.specs.Journals.{is_dirty, journal_blocks, journal_block, journal_super, is_sound_journal_super, has_known_features}
-use Rattle.o2_model.specs.Logs.{Transaction, is_wide, log_blocks, log_in, read_log, no_writes}
+use Rattle.o2_model.specs.Logs.{log_blocks, log_in}
 use Rattle.o2_model.specs.Dirty.{is_journal, has_journal_extents, journal_part_fault}
 use Rattle.o2_model.specs.Anchors.{journal_anchors}
 use Rattle.o2_model.specs.Checks.Extent.{extent_faults}

@@ -1,8 +1,8 @@
 -- Blocks that agree on what a replay reads of a volume with one dirty slot: the volume over them can be replayed as well.
-use Rattle.std.proofs.Common.{◌≡◌, ◌⊎◌, inl, inr, ⊎_elim, ℕ, Bool, true, false, cond, ◌||◌, ◌&&◌, not, ◌==◌, List, [], ◌∷◌, ◌++◌, map, refl, sym, ◌∙◌, ap, subst, Option, Some, None}
+use Rattle.std.proofs.Common.{◌≡◌, ◌⊎◌, inl, inr, ℕ, Bool, true, false, cond, ◌||◌, ◌&&◌, not, ◌==◌, List, [], ◌∷◌, ◌++◌, map, refl, sym, ◌∙◌, ap, subst, Option, Some, None}
 use Rattle.std.proofs.Math.Path.{fun_ext}
-use Rattle.std.specs.Prelude.{flat_map, filter, nat_eq, option_and_then, nat_lt, drop, bytes_eq, nat_le, ◌^◌}
-use Rattle.std.specs.List.{list_any, list_all, Contains, IsDistinct}
+use Rattle.std.specs.Prelude.{filter, nat_eq, option_and_then, nat_lt, drop, bytes_eq, nat_le, ◌^◌}
+use Rattle.std.specs.List.{list_all, IsDistinct}
 use Rattle.std.specs.Option.{option_map_or}
 use Rattle.std.proofs.lemmas.Bool.{cases_Bool}
 use Rattle.std.proofs.lemmas.List.{append-nil}
@@ -15,8 +15,8 @@ use Rattle.o2_model.specs.Volume.{Volume, over}
 use Rattle.o2_model.specs.Directories.{directory_entries}
 use Rattle.o2_model.specs.SystemFiles.{slots}
 use Rattle.o2_model.specs.Journals.{named_journal, journal_super, is_dirty}
-use Rattle.o2_model.specs.Logs.{LoggedBlock, Transaction, log_in, unrevoked}
-use Rattle.o2_model.specs.Dirty.{is_journal, journal_if, slot_journal, is_dirty_slot, dirty_slots, journal_part_fault, slot_fault, journal_fault, log_of, committed_writes, all_committed_writes, bytes_after, as_logged}
+use Rattle.o2_model.specs.Logs.{LoggedBlock, unrevoked}
+use Rattle.o2_model.specs.Dirty.{is_journal, journal_if, slot_journal, is_dirty_slot, dirty_slots, journal_part_fault, journal_fault, log_of, committed_writes, all_committed_writes, bytes_after, as_logged}
 use Rattle.o2_model.specs.Anchors.{directory_anchors, journal_anchors, anchors_of, anchors_as_logged, is_anchor, names_dirty_journal, is_clean_slot, keeps_journal, clusters_in, slots_in, with_old_numbers, with_logged, is_super_change, is_directory_change, is_journal_change, is_allowed_write, is_sound_write, bad_writes, log_fault}
 use Rattle.o2_model.specs.Checks.Super.{is_sound_super, super_faults}
 use Rattle.o2_model.specs.Checks.Sysdir.{is_sound_directory, sysdir_faults}
@@ -32,7 +32,7 @@ use Rattle.o2_model.proofs.Stable.CanReplay
 pub record SameRead (v : Volume) (s : ℕ) (at : ℕ → List ℕ) : Type 0 where
   pub anchors : (b : ℕ) → is_anchor v b ≡ true → at b ≡ v.at b
   pub marks : (slot b : ℕ) → (named_journal v slot ≡ Some b) ⊎ (named_journal (as_logged v) slot ≡ Some b)
-    → (at b ≡ v.at b) ⊎ ((is_dirty v b ≡ false) × (is_dirty (over v at) b ≡ false))
+      → (at b ≡ v.at b) ⊎ ((is_dirty v b ≡ false) × (is_dirty (over v at) b ≡ false))
   pub logged : (b : ℕ) → bytes_after (committed_writes v s) b (at b) ≡ bytes_after (committed_writes v s) b (v.at b)
 
 -- an inode that is not marked is no dirty journal

@@ -1,16 +1,15 @@
 -- A change of block 2 that is allowed keeps the signature, the sizes, the generation and the place of the system directory, so that the
 -- superblock is found as before.
-use Rattle.std.proofs.Common.{◌≡◌, ◌⊎◌, inl, inr, ⊎_elim, ℕ, ◌+◌, ◌-◌, ◌*◌, ◌/◌, ◌^◌, ◌<◌, ◌≤◌, Bool, true, false, ◌&&◌, nat_le, List, [], ◌∷◌, length, take, drop, refl, sym, ◌∙◌, ap, subst, arith, Some, length-drop}
-use Rattle.std.specs.Prelude.{◌==◌, find, bytes_eq, nat_lt}
+use Rattle.std.proofs.Common.{◌≡◌, ◌⊎◌, inl, inr, ⊎_elim, ℕ, ◌+◌, ◌*◌, ◌/◌, ◌^◌, ◌<◌, ◌≤◌, true, ◌&&◌, nat_le, List, length, drop, refl, sym, ◌∙◌, ap, subst, arith, Some, length-drop}
+use Rattle.std.specs.Prelude.{◌==◌, bytes_eq, nat_lt}
 use Rattle.std.specs.List.{list_all}
-use Rattle.std.proofs.lemmas.Bool.{cases_eq, cases_lt, and_parts}
+use Rattle.std.proofs.lemmas.Bool.{cases_eq, and_parts}
 use Rattle.std.proofs.lemmas.Slice.Eq.{bytes_eq-Decides}
 use Rattle.std.proofs.lemmas.List.{length-take-le}
 use Rattle.std.proofs.lemmas.Nat.{pow-add}
 use Rattle.std.proofs.Math.Nat.{pow-le-pow_right}
 use Rattle.o2_ondisk.specs.Number.{number_at}
 use Rattle.o2_ondisk.specs.Fields.{paste_at, bytes_at}
-use Rattle.o2_ondisk.specs.Super.{super_of}
 use Rattle.o2_ondisk.proofs.NumberLaws.{number_at-drop}
 use Rattle.o2_ondisk.proofs.PasteLaws.{number_at-paste_at_apart, length-paste_at}
 use Rattle.o2_disk.specs.Image.{Image, sector, block_at}
@@ -20,8 +19,7 @@ use Rattle.o2_model.specs.Geometry.{geometry_of}
 use Rattle.o2_model.specs.Volume.{Volume}
 use Rattle.o2_model.specs.Logs.{LoggedBlock}
 use Rattle.o2_model.specs.Dirty.{dirty_slots}
-use Rattle.o2_model.specs.Orders.{from_to}
-use Rattle.o2_model.specs.Anchors.{with_old_numbers, clusters_in, slots_in, is_clean_slot, is_super_change}
+use Rattle.o2_model.specs.Anchors.{with_old_numbers, clusters_in, slots_in, is_super_change}
 use Rattle.o2_model.proofs.SameSuperblock.{find_same, sizes_rise}
 
 -- the numbers lie apart from i_clusters, s_max_slots and s_label

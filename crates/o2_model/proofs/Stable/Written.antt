@@ -1,12 +1,12 @@
 -- What a list of writes leaves in a block: the bytes of a write to it, or the bytes from before.
-use Rattle.std.proofs.Common.{◌≡◌, ◌⊎◌, inl, inr, ⊎_elim, ℕ, Bool, true, false, cond, ◌||◌, ◌==◌, List, [], ◌∷◌, ◌++◌, map, refl, sym, ◌∙◌, ap, subst, arith}
-use Rattle.std.specs.Prelude.{fold, nat_eq}
+use Rattle.std.proofs.Common.{◌≡◌, inl, inr, ℕ, Bool, true, false, ◌==◌, List, [], ◌∷◌, ◌++◌, map, refl, sym, ◌∙◌, ap, arith}
+use Rattle.std.specs.Prelude.{nat_eq}
 use Rattle.std.specs.List.{list_any, Contains, IsDistinct, AllByRecursion}
 use Rattle.std.proofs.lemmas.Bool.{cases_Bool, eq-eqb, eqb-true, false≢true, or_left, or_right}
 use Rattle.o2_model.specs.Words.{among}
 use Rattle.o2_model.specs.Logs.{LoggedBlock}
 use Rattle.o2_model.specs.Dirty.{bytes_after}
-use Rattle.o2_model.proofs.Found.{passing, found, contains_first, contains_later, each_of}
+use Rattle.o2_model.proofs.Found.{passing, found}
 use Rattle.o2_model.proofs.Members.{contains_cases}
 
 -- one of the writes is to the block
