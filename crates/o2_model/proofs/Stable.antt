@@ -3,7 +3,9 @@ pub mod SameDirectory
 pub mod SameJournal
 pub mod Written
 pub mod CanReplay
+pub mod OneSlot
 pub mod SameRead
+pub mod WholeWrites
 pub mod Alike
 pub mod AlikeParts
 pub mod TornBlocks

@@ -1,12 +1,12 @@
 -- Four images that tell whether a replay may be stopped and started again, where one slot is dirty.
-use Rattle.std.specs.Prelude.{◌≡◌, ◌⊎◌, ℕ, nat_eq, false, List, [], ◌∷◌, map, length, Some, if◌then◌else◌}
-use Rattle.std.specs.List.{Contains, IsDistinct}
+use Rattle.std.specs.Prelude.{◌≡◌, ◌⊎◌, ℕ, ◌<◌, nat_eq, false, List, [], ◌∷◌, map, length, Some, if◌then◌else◌}
+use Rattle.std.specs.List.{IsDistinct}
 use Rattle.o2_disk.specs.Image.{Image, sector, image_of}
 use Rattle.o2_model.specs.Words.{among}
 use Rattle.o2_model.specs.Volume.{Volume, block_size, opened}
 use Rattle.o2_model.specs.Journals.{named_journal, is_dirty}
-use Rattle.o2_model.specs.Logs.{LoggedBlock}
 use Rattle.o2_model.specs.Dirty.{dirty_slots, slot_journal, committed_writes, as_logged}
+use Rattle.o2_model.specs.Anchors.{slots_in}
 use Rattle.o2_model.specs.Replay.{first_sector, replayed, IsReplayable}
 
 -- the image, with these sectors as they are in the other one
@@ -21,6 +21,18 @@ sector_of_super v = first_sector (block_size v) 2
 abbrev pub sector_of_sysdir : Volume → ℕ
 sector_of_sysdir v = first_sector (block_size v) v.geo.sysdir
 
+-- block 2 counts the slot, now or as the log leaves it
+abbrev pub IsCounted : Volume → ℕ → Type 0
+IsCounted v slot = (slot < v.geo.slots) ⊎ (slot < slots_in ((as_logged v).at 2))
+
+-- the slot's name names this inode, now or as the log leaves the names
+abbrev pub IsNamed : Volume → ℕ → ℕ → Type 0
+IsNamed v slot b = (named_journal v slot ≡ Some b) ⊎ (named_journal (as_logged v) slot ≡ Some b)
+
+-- the inode is not marked dirty, now or as the log leaves it
+abbrev pub IsUnmarked : Volume → ℕ → Type 0
+IsUnmarked v b = (is_dirty v b ≡ false) × (is_dirty (as_logged v) b ≡ false)
+
 -- One slot of the volume in the image is dirty, and its log writes each block once.
 pub record HasOneLog (I : Image) (v : Volume) (slot journal : ℕ) : Type 0 where
   pub is_opened : opened I ≡ Some v
@@ -30,10 +42,8 @@ pub record HasOneLog (I : Image) (v : Volume) (slot journal : ℕ) : Type 0 wher
   pub its_journal : slot_journal v slot ≡ Some journal
   -- no two of the writes that a replay applies are to one block
   pub once : IsDistinct nat_eq (map (λ w. w.block) (committed_writes v slot))
-  -- each of them is of a whole block
-  pub whole : (w : LoggedBlock) → Contains (committed_writes v slot) w → length w.bytes ≡ block_size v
-  -- no other inode that a journal's name tells, now or as the log leaves the names, is marked dirty, now or as the log leaves it
-  pub others_clean : (s b : ℕ) → (named_journal v s ≡ Some b) ⊎ (named_journal (as_logged v) s ≡ Some b) → (b ≡ journal → ⊥) → (is_dirty v b ≡ false) × (is_dirty (as_logged v) b ≡ false)
+  -- no other inode that a journal's name tells is marked dirty
+  pub others_clean : (s b : ℕ) → IsCounted v s → IsNamed v s b → (b ≡ journal → ⊥) → IsUnmarked v b
 
 -- The image can be replayed, also with the first sectors of block 2 and of the system directory as the replay leaves them.
 pub record AreFourReplayable (I : Image) (v : Volume) : Type 0 where

@@ -1,5 +1,5 @@
 -- Where the image with the first sectors of a torn one can be replayed, so can the torn one.
-use Rattle.std.proofs.Common.{◌≡◌, ◌⊎◌, inl, inr, ⊎_elim, ℕ, ◌*◌, ◌+◌, ◌^◌, true, false, List, [], ◌∷◌, map, refl, sym, ◌∙◌, ap, subst, arith, Some}
+use Rattle.std.proofs.Common.{◌≡◌, ◌⊎◌, inl, inr, ⊎_elim, ℕ, ◌<◌, ◌*◌, ◌+◌, ◌^◌, true, false, List, [], ◌∷◌, map, refl, sym, ◌∙◌, ap, subst, arith, Some}
 use Rattle.std.specs.Prelude.{nat_eq, find, option_map}
 use Rattle.std.specs.List.{Contains, IsDistinct}
 use Rattle.std.specs.Option.{option_map_or}
@@ -18,11 +18,12 @@ use Rattle.o2_model.specs.SystemFiles.{system_name, system_inode}
 use Rattle.o2_model.specs.Journals.{named_journal, is_dirty}
 use Rattle.o2_model.specs.Logs.{LoggedBlock, log_in, unrevoked}
 use Rattle.o2_model.specs.Dirty.{committed_writes, log_of, bytes_after, as_logged}
-use Rattle.o2_model.specs.Anchors.{is_anchor, directory_anchors, journal_anchors}
+use Rattle.o2_model.specs.Anchors.{slots_in, is_anchor, directory_anchors, journal_anchors}
+use Rattle.o2_model.specs.FourImages.{IsCounted, IsNamed, IsUnmarked}
 use Rattle.o2_model.proofs.Stable.SameDirectory.{directory_is_anchor, among_left, among_right, sound_extents}
 use Rattle.o2_model.proofs.Stable.Written.{writes_to, writes_there, bytes_kept, bytes_put, bytes_of_write}
 use Rattle.o2_model.proofs.Stable.CanReplay as sound
-use Rattle.o2_model.proofs.Stable.SameRead.{SameRead}
+use Rattle.o2_model.proofs.Stable.SameRead.{IsCountedBy, SameRead}
 use Rattle.o2_model.proofs.Stable.Alike.{SameSizes}
 use Rattle.o2_model.proofs.Stable.AlikeParts.{entries_alike, log_alike}
 use Rattle.o2_model.proofs.Stable.TornBlocks.{old_or_put, first_number, first_number_put}
@@ -44,10 +45,6 @@ sizes_of_logged v u sizes = record { block_bits = sym sizes.block_bits; cluster_
 logged_place : (v : Volume) → (as_logged v).geo.sysdir ≡ v.geo.sysdir
 unfolding as_logged
 logged_place v = refl
-
--- A name of the volume, or of the volume as the logs leave it.
-abbrev pub IsName : Volume → ℕ → ℕ → Type 0
-IsName v slot b = (named_journal v slot ≡ Some b) ⊎ (named_journal (as_logged v) slot ≡ Some b)
 
 module _ (J F V : Image) (bits k s j : ℕ) (is : ChosenImage.IsChosen J F V bits k s j) (can : sound.CanReplay (volume_of F bits) s j) where
   abbrev v : Volume
@@ -155,7 +152,7 @@ module _ (J F V : Image) (bits k s j : ℕ) (is : ChosenImage.IsChosen J F V bit
     logged_is w b inside at =
         ap (λ c. (as_logged v).at c) (sym at) ∙ (sound.logged_at v s j is.can w.block ∙ bytes_of_write (committed_writes v s) w (v.at w.block) once inside)
 
-    name_now : (slot b : ℕ) → named_journal u slot ≡ Some b → IsName v slot b
+    name_now : (slot b : ℕ) → named_journal u slot ≡ Some b → IsNamed v slot b
     name_now slot b named = elim (ChosenImage.old_or_written J F V bits k s j is v.geo.sysdir sysdir_anchor is.directory) [
       | inl old ↦ inl (sym (inode_alike v u (OfSlot Journal slot) place (old_names old)) ∙ named)
       | inr put ↦
@@ -172,7 +169,7 @@ module _ (J F V : Image) (bits k s j : ℕ) (is : ChosenImage.IsChosen J F V bit
         (sound_extents (as_logged v) v.geo.sysdir (sound.directory_change v s j is.can written).0)
         (subst (λ d. (extents (as_logged u) d).faults ≡ []) place (sound_extents (as_logged u) u.geo.sysdir (sound.directory_change u s j can also).0))
 
-    name_later : (slot b : ℕ) → named_journal (as_logged u) slot ≡ Some b → IsName v slot b
+    name_later : (slot b : ℕ) → named_journal (as_logged u) slot ≡ Some b → IsNamed v slot b
     name_later slot b named = elim (cases_Bool (writes_to (committed_writes v s) v.geo.sysdir)) [
       | inr none ↦
           let also : writes_to (committed_writes u s) u.geo.sysdir ≡ false = ap (λ ws. writes_to ws u.geo.sysdir) writes_alike ∙ (ap (writes_to (committed_writes v s)) place ∙ none) in
@@ -212,12 +209,22 @@ module _ (J F V : Image) (bits k s j : ℕ) (is : ChosenImage.IsChosen J F V bit
         ]
 
     -- Where no other inode that a journal's name tells is marked:
-    module _ (clean : (slot b : ℕ) → IsName v slot b → (b ≡ j → ⊥) → (is_dirty v b ≡ false) × (is_dirty (as_logged v) b ≡ false)) where
-      marks : (slot b : ℕ) → IsName u slot b → (torn_at b ≡ u.at b) ⊎ ((is_dirty u b ≡ false) × (is_dirty (over u torn_at) b ≡ false))
-      marks slot b name = elim (cases_eq b j) [
+    module _ (clean : (slot b : ℕ) → IsCounted v slot → IsNamed v slot b → (b ≡ j → ⊥) → IsUnmarked v b) where
+      -- a slot that the volume counts, or that a write does
+      counted : (slot : ℕ) → IsCountedBy u s slot → IsCounted v slot
+      counted slot (inr by_write) =
+          let inside = subst (λ ws. Contains ws by_write.0) writes_alike by_write.1 in
+          inr (subst (λ bytes. slot < slots_in bytes) (sym (logged_is by_write.0 2 inside by_write.2)) by_write.3)
+      counted slot (inl low) = elim (ChosenImage.old_or_written J F V bits k s j is 2 (sound.first_block_is_anchor v s j is.can 2 refl) is.two) [
+        | inl old ↦ inl (subst (λ bytes. slot < slots_in bytes) old low)
+        | inr put ↦ inr (subst (λ bytes. slot < slots_in bytes) (put.3 ∙ sym (logged_is put.0 2 put.1 put.2)) low)
+      ]
+
+      marks : (slot b : ℕ) → IsCountedBy u s slot → IsNamed u slot b → (torn_at b ≡ u.at b) ⊎ ((is_dirty u b ≡ false) × (is_dirty (over u torn_at) b ≡ false))
+      marks slot b count name = elim (cases_eq b j) [
         | inl own ↦ inl (subst (λ c. torn_at c ≡ u.at c) (sym own) (ChosenImage.journal_same J F V bits k s j is))
         | inr not_journal ↦
-            let both = clean slot b (⊎_elim (name_now slot b) (name_later slot b) name) not_journal in
+            let both = clean slot b (counted slot count) (⊎_elim (name_now slot b) (name_later slot b) name) not_journal in
             inr (chosen_clean b both.0 both.1, torn_clean b both.0 both.1)
       ]
 

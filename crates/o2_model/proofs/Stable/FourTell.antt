@@ -22,7 +22,8 @@ use Rattle.o2_model.proofs.Failing.{volume_of-over}
 use Rattle.o2_model.proofs.Stable.SameDirectory.{among_first}
 use Rattle.o2_model.proofs.Stable.CanReplay as sound
 use Rattle.o2_model.proofs.Stable.SameRead as read
-use Rattle.o2_model.proofs.Stable.TornBlocks.{IsTornBy, blocks_apart}
+use Rattle.o2_model.proofs.Stable.WholeWrites.{whole_writes}
+use Rattle.o2_model.proofs.Stable.TornBlocks.{length-block, IsTornBy, blocks_apart}
 use Rattle.o2_model.proofs.Stable.ChosenImage.{IsChosen, chosen_bits, two_same}
 use Rattle.o2_model.proofs.Stable.ChosenVolume.{torn_reads}
 use Rattle.o2_model.proofs.Stable.ReplayedSectors.{first_sector_is, sector_replayed}
@@ -115,7 +116,7 @@ module _ (I : Image) (bits s j : ℕ) (found : superblock_bits I ≡ Some bits) 
   each_of_four false false = rw (with_none (replayed I) I) four.neither
 
   whole : (w : LoggedBlock) → Contains (committed_writes v s) w → length w.bytes ≡ 512 * k
-  whole w inside = one.whole w inside ∙ (size_of_blocks ∙ size)
+  whole w inside = whole_writes v s j one.its_journal (sound.usable v s j can) (λ b. length-block (2 ^ bits) I b ∙ sym size_of_blocks) (omega (arith, size_of_blocks, size, some)) w inside ∙ (size_of_blocks ∙ size)
 
   module _ (V : Image) (torn : IsTornReplay I v V) where
     torn_by : IsTornBy k (committed_writes v s) I V

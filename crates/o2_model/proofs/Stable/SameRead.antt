@@ -1,10 +1,10 @@
 -- Blocks that agree on what a replay reads of a volume with one dirty slot: the volume over them can be replayed as well.
-use Rattle.std.proofs.Common.{◌≡◌, ◌⊎◌, inl, inr, ℕ, Bool, true, false, cond, ◌||◌, ◌&&◌, not, ◌==◌, List, [], ◌∷◌, ◌++◌, map, refl, sym, ◌∙◌, ap, subst, Option, Some, None}
+use Rattle.std.proofs.Common.{◌≡◌, ◌⊎◌, inl, inr, ℕ, ◌<◌, Bool, true, false, cond, ◌||◌, ◌&&◌, not, ◌==◌, List, [], ◌∷◌, ◌++◌, map, refl, sym, ◌∙◌, ap, subst, Option, Some, None, arith}
 use Rattle.std.proofs.Math.Path.{fun_ext}
 use Rattle.std.specs.Prelude.{filter, nat_eq, option_and_then, nat_lt, drop, bytes_eq, nat_le, ◌^◌}
-use Rattle.std.specs.List.{list_all, IsDistinct}
+use Rattle.std.specs.List.{list_all, Contains, IsDistinct, range_with_len}
 use Rattle.std.specs.Option.{option_map_or}
-use Rattle.std.proofs.lemmas.Bool.{cases_Bool}
+use Rattle.std.proofs.lemmas.Bool.{cases_Bool, eqb-true}
 use Rattle.std.proofs.lemmas.List.{append-nil}
 use Rattle.o2_model.specs.declared.system_file.SlotFile.TheVariants.{Journal}
 use Rattle.o2_model.specs.declared.system_file.SystemFile.TheVariants.{OfSlot}
@@ -22,46 +22,31 @@ use Rattle.o2_model.specs.Checks.Super.{is_sound_super, super_faults}
 use Rattle.o2_model.specs.Checks.Sysdir.{is_sound_directory, sysdir_faults}
 use Rattle.o2_model.specs.Checks.Journal.{is_sound_journal}
 use Rattle.o2_model.specs.Replay.{dirty_journals}
+use Rattle.o2_model.proofs.Found.{range_bounds}
+use Rattle.o2_model.proofs.Members.{contains_filter}
 use Rattle.o2_model.proofs.Agreeing.{filter_agree_on, all_agree, option_agree}
 use Rattle.o2_model.proofs.Stable.SameDirectory.{sound_directory_same, directory_entries_same, directory_anchors_same, system_inode_same}
 use Rattle.o2_model.proofs.Stable.SameJournal.{is_journal_same, is_dirty_same, journal_inode_same, journal_anchors_same, part_fault_same, log_in_same}
+use Rattle.o2_model.proofs.Stable.OneSlot.{clean_if, no_dirty_journal, becomes_empty, is_change, anchors_by, logged_anchors_by}
 use Rattle.o2_model.proofs.Stable.CanReplay
 
--- The blocks agree with those of the volume on all anchors; an inode that a journal's name tells is the same, or clean in both; and
--- the log leaves the same.
+-- The volume counts the slot, or a write to block 2 does.
+abbrev pub IsCountedBy : Volume → ℕ → ℕ → Type 0
+IsCountedBy v s slot = (slot < v.geo.slots) ⊎ ((w : LoggedBlock) × Contains (committed_writes v s) w × (w.block ≡ 2) × (slot < slots_in w.bytes))
+
+-- The blocks agree with those of the volume on all anchors; an inode that the name of a counted slot's journal tells is the same, or
+-- clean in both; and the log leaves the same.
 pub record SameRead (v : Volume) (s : ℕ) (at : ℕ → List ℕ) : Type 0 where
   pub anchors : (b : ℕ) → is_anchor v b ≡ true → at b ≡ v.at b
-  pub marks : (slot b : ℕ) → (named_journal v slot ≡ Some b) ⊎ (named_journal (as_logged v) slot ≡ Some b)
+  pub marks : (slot b : ℕ) → IsCountedBy v s slot → (named_journal v slot ≡ Some b) ⊎ (named_journal (as_logged v) slot ≡ Some b)
       → (at b ≡ v.at b) ⊎ ((is_dirty v b ≡ false) × (is_dirty (over v at) b ≡ false))
   pub logged : (b : ℕ) → bytes_after (committed_writes v s) b (at b) ≡ bytes_after (committed_writes v s) b (v.at b)
 
--- an inode that is not marked is no dirty journal
-clean_if : (v : Volume) (b : ℕ) → is_dirty v b ≡ false → option_map_or (is_dirty v) (journal_if v b) false ≡ false
-clean_if v b clean = elim (cases_Bool (is_journal v b)) [ inl is ↦ rw is clean | inr other ↦ rw other refl ]
+below : (count slot : ℕ) → Contains (range_with_len 0 count) slot → slot < count
+below count slot is = omega (arith, (range_bounds 0 count slot is).1)
 
-no_dirty_journal : (v : Volume) (b : ℕ) → is_dirty v b ≡ false → (is_journal v b && is_dirty v b) ≡ false
-no_dirty_journal v b clean = elim (cases_Bool (is_journal v b)) [ inl is ↦ rw (is, clean) refl | inr other ↦ rw other refl ]
-
--- what is asked of the slot's own journal
-abbrev becomes_empty : Volume → LoggedBlock → Bool
-becomes_empty v w = is_sound_journal v w.block && (journal_super v w.block).start == 0 && not (is_dirty v w.block)
-
-is_change : (v : Volume) (s : ℕ) (w : LoggedBlock) → is_journal_change v s w ≡ (option_map_or (λ b. w.block == b) (slot_journal v s) false && becomes_empty (with_logged v w) w)
-unfolding is_journal_change
-is_change v s w = three (option_map_or (λ b. w.block == b) (slot_journal v s) false) _ _ _
-  where
-    three : (a b c d : Bool) → (a && b && c && d) ≡ (a && (b && c && d))
-    three true b c d = refl
-    three false b c d = refl
-
-anchors_by : (v : Volume) (s j : ℕ) → dirty_slots v ≡ s ∷ [] → slot_journal v s ≡ Some j → anchors_of v ≡ (0 ∷ 1 ∷ 2 ∷ directory_anchors v v.geo.sysdir) ++ journal_anchors v j
-unfolding anchors_of
-anchors_by v s j slots journal = rw (slots, journal, append-nil (journal_anchors v j)) refl
-
-logged_anchors_by : (v : Volume) (s j : ℕ) → dirty_slots v ≡ s ∷ [] → named_journal (as_logged v) s ≡ Some j
-    → anchors_as_logged v ≡ directory_anchors (as_logged v) v.geo.sysdir ++ journal_anchors v j
-unfolding anchors_as_logged
-logged_anchors_by v s j slots named = rw (slots, named, append-nil (journal_anchors v j)) refl
+below_high : (low high slot : ℕ) → Contains (from_to low high) slot → slot < high
+below_high low high slot is = below high slot (contains_filter (λ n. not (nat_lt n low)) (range_with_len 0 high) slot is).0
 
 module _ (v : Volume) (s j : ℕ) (can : CanReplay.CanReplay v s j) (at : ℕ → List ℕ) (same : SameRead v s at) where
   directory_same_on : SameOn (directory_anchors v v.geo.sysdir) v at
@@ -88,10 +73,10 @@ module _ (v : Volume) (s j : ℕ) (can : CanReplay.CanReplay v s j) (at : ℕ �
   names_same slot = system_inode_same v at (OfSlot Journal slot) entries_same
 
   -- ---- the dirty slot
-  dirty_by_name : (slot : ℕ) (o : Option ℕ) → named_journal v slot ≡ o
+  dirty_by_name : (slot : ℕ) (o : Option ℕ) → slot < v.geo.slots → named_journal v slot ≡ o
       → option_map_or (is_dirty (over v at)) (option_and_then (journal_if (over v at)) o) false ≡ option_map_or (is_dirty v) (option_and_then (journal_if v) o) false
-  dirty_by_name slot None named = refl
-  dirty_by_name slot (Some b) named = elim (same.marks slot b (inl named)) [
+  dirty_by_name slot None low named = refl
+  dirty_by_name slot (Some b) low named = elim (same.marks slot b (inl low) (inl named)) [
     | inl bytes ↦ elim (cases_Bool (is_journal v b)) [
       | inl is ↦ rw (is_journal_same v at b bytes, is) (is_dirty_same v at b bytes)
       | inr other ↦ rw (is_journal_same v at b bytes, other) refl
@@ -99,15 +84,15 @@ module _ (v : Volume) (s j : ℕ) (can : CanReplay.CanReplay v s j) (at : ℕ �
     | inr clean ↦ clean_if (over v at) b clean.1 ∙ sym (clean_if v b clean.0)
   ]
 
-  dirty_same : (slot : ℕ) → is_dirty_slot (over v at) slot ≡ is_dirty_slot v slot
+  dirty_same : (slot : ℕ) → slot < v.geo.slots → is_dirty_slot (over v at) slot ≡ is_dirty_slot v slot
   unfolding slot_journal
-  dirty_same slot =
+  dirty_same slot low =
       ap (λ o. option_map_or (is_dirty (over v at)) (option_and_then (journal_if (over v at)) o) false) (names_same slot)
-      ∙ dirty_by_name slot (named_journal v slot) refl
+      ∙ dirty_by_name slot (named_journal v slot) low refl
 
   pub slots_same : dirty_slots (over v at) ≡ s ∷ []
   unfolding dirty_slots
-  slots_same = filter_agree_on (is_dirty_slot (over v at)) (is_dirty_slot v) (slots v) (λ slot is. dirty_same slot) ∙ can.slots
+  slots_same = filter_agree_on (is_dirty_slot (over v at)) (is_dirty_slot v) (slots v) (λ slot is. dirty_same slot (below v.geo.slots slot is)) ∙ can.slots
 
   journal_here : at j ≡ v.at j
   journal_here = journal_inode_same v at j journal_same_on (CanReplay.journal_extents v s j can)
@@ -176,23 +161,23 @@ module _ (v : Volume) (s j : ℕ) (can : CanReplay.CanReplay v s j) (at : ℕ �
 
   -- ---- writes
   -- a name of the volume or of the volume as the logs leave it
-  by_dinodes : (names : Volume) (slot : ℕ) → ((b : ℕ) → named_journal names slot ≡ Some b → (named_journal v slot ≡ Some b) ⊎ (named_journal (as_logged v) slot ≡ Some b))
+  by_dinodes : (names : Volume) (slot : ℕ) → IsCountedBy v s slot → ((b : ℕ) → named_journal names slot ≡ Some b → (named_journal v slot ≡ Some b) ⊎ (named_journal (as_logged v) slot ≡ Some b))
       → names_dirty_journal names (over v at) slot ≡ names_dirty_journal names v slot
-  by_dinodes names slot which =
+  by_dinodes names slot counted which =
       option_agree (λ b. is_journal (over v at) b && is_dirty (over v at) b) (λ b. is_journal v b && is_dirty v b) (named_journal names slot) false (λ b named.
-      elim (same.marks slot b (which b named)) [
+      elim (same.marks slot b counted (which b named)) [
         | inl bytes ↦ rw (is_journal_same v at b bytes, is_dirty_same v at b bytes) refl
         | inr clean ↦ no_dirty_journal (over v at) b clean.1 ∙ sym (no_dirty_journal v b clean.0)
       ])
 
-  clean_slot_same : (slot : ℕ) → is_clean_slot (over v at) slot ≡ is_clean_slot v slot
-  clean_slot_same slot =
+  clean_slot_same : (slot : ℕ) → IsCountedBy v s slot → is_clean_slot (over v at) slot ≡ is_clean_slot v slot
+  clean_slot_same slot counted =
       let first : names_dirty_journal (over v at) (over v at) slot ≡ names_dirty_journal v v slot
-      = ap (λ o. option_map_or (λ b. is_journal (over v at) b && is_dirty (over v at) b) o false) (names_same slot) ∙ by_dinodes v slot (λ b named. inl named) in
+      = ap (λ o. option_map_or (λ b. is_journal (over v at) b && is_dirty (over v at) b) o false) (names_same slot) ∙ by_dinodes v slot counted (λ b named. inl named) in
       let second : names_dirty_journal (over v at) (as_logged (over v at)) slot ≡ names_dirty_journal v (as_logged v) slot
       = ap (λ u. names_dirty_journal (over v at) u slot) logged_same ∙ ap (λ o. option_map_or (λ b. is_journal (as_logged v) b && is_dirty (as_logged v) b) o false) (names_same slot) in
       let third : names_dirty_journal (as_logged (over v at)) (over v at) slot ≡ names_dirty_journal (as_logged v) v slot
-      = ap (λ u. names_dirty_journal u (over v at) slot) logged_same ∙ by_dinodes (as_logged v) slot (λ b named. inr named) in
+      = ap (λ u. names_dirty_journal u (over v at) slot) logged_same ∙ by_dinodes (as_logged v) slot counted (λ b named. inr named) in
       let fourth : names_dirty_journal (as_logged (over v at)) (as_logged (over v at)) slot ≡ names_dirty_journal (as_logged v) (as_logged v) slot
       = ap (λ u. names_dirty_journal u u slot) logged_same in
       four (names_dirty_journal (over v at) (over v at) slot) (names_dirty_journal v v slot) _ _ _ _ _ _ first second third fourth
@@ -205,12 +190,16 @@ module _ (v : Volume) (s j : ℕ) (can : CanReplay.CanReplay v s j) (at : ℕ �
       ap (λ u. option_map_or (λ b. option_map_or (λ c. b == c) (named_journal u s) false) (named_journal (over v at) s) false) logged_same
       ∙ ap (λ o. option_map_or (λ b. option_map_or (λ c. b == c) (named_journal (as_logged v) s) false) o false) (names_same s)
 
-  super_change_same : (w : LoggedBlock) → is_super_change (over v at) w ≡ is_super_change v w
+  super_change_same : (w : LoggedBlock) → Contains (committed_writes v s) w → is_super_change (over v at) w ≡ is_super_change v w
   unfolding is_super_change
-  super_change_same w =
-      let cleans = all_agree (is_clean_slot (over v at)) (is_clean_slot v) (from_to v.geo.slots (slots_in w.bytes)) (λ slot is. clean_slot_same slot) in
-      rw (slots_same, can.slots, two_same) (ap (λ x. w.block == 2 && bytes_eq (with_old_numbers (v.at 2) w.bytes) (v.at 2) && nat_le (clusters_in w.bytes) (2 ^ 30)
-      && list_all (λ slot. nat_lt slot (slots_in w.bytes)) (s ∷ []) && x) cleans)
+  super_change_same w inside = elim (cases_Bool (w.block == 2)) [
+    | inr other ↦ rw other refl
+    | inl two ↦
+        let cleans = all_agree (is_clean_slot (over v at)) (is_clean_slot v) (from_to v.geo.slots (slots_in w.bytes)) (λ slot is.
+        clean_slot_same slot (inr (w, inside, eqb-true w.block 2 two, below_high v.geo.slots (slots_in w.bytes) slot is))) in
+        rw (slots_same, can.slots, two_same) (ap (λ x. w.block == 2 && bytes_eq (with_old_numbers (v.at 2) w.bytes) (v.at 2) && nat_le (clusters_in w.bytes) (2 ^ 30)
+        && list_all (λ slot. nat_lt slot (slots_in w.bytes)) (s ∷ []) && x) cleans)
+  ]
 
   directory_change_same : (w : LoggedBlock) → is_directory_change (over v at) w ≡ is_directory_change v w
   unfolding is_directory_change
@@ -230,21 +219,21 @@ module _ (v : Volume) (s j : ℕ) (can : CanReplay.CanReplay v s j) (at : ℕ �
       ∙ (ap (λ u. option_map_or (λ b. w.block == b) (slot_journal v s) false && becomes_empty u w) (with_logged_same w)
       ∙ sym (is_change v s w)))
 
-  allowed_same : (w : LoggedBlock) → at w.block ≡ v.at w.block → is_allowed_write (over v at) s w ≡ is_allowed_write v s w
+  allowed_same : (w : LoggedBlock) → Contains (committed_writes v s) w → at w.block ≡ v.at w.block → is_allowed_write (over v at) s w ≡ is_allowed_write v s w
   unfolding is_allowed_write
-  allowed_same w bytes =
+  allowed_same w inside bytes =
       ap (λ b. bytes_eq (drop 512 w.bytes) (drop 512 b) && (is_super_change (over v at) w || is_directory_change (over v at) w || is_journal_change (over v at) s w)) bytes
-      ∙ three _ _ _ _ _ _ _ (super_change_same w) (directory_change_same w) (journal_change_same w)
+      ∙ three _ _ _ _ _ _ _ (super_change_same w inside) (directory_change_same w) (journal_change_same w)
     where
       three : (a b c d e f g : Bool) → b ≡ c → d ≡ e → f ≡ g → (a && (b || d || f)) ≡ (a && (c || e || g))
       three a b c d e f g one two last = cc
 
-  sound_write_same : (w : LoggedBlock) → is_sound_write (over v at) s w ≡ is_sound_write v s w
+  sound_write_same : (w : LoggedBlock) → Contains (committed_writes v s) w → is_sound_write (over v at) s w ≡ is_sound_write v s w
   unfolding is_sound_write
-  sound_write_same w = elim (cases_Bool (is_anchor v w.block)) [
+  sound_write_same w inside = elim (cases_Bool (is_anchor v w.block)) [
     | inl anchor ↦
         ap (λ x. nat_lt w.block v.on_device && (not x || is_allowed_write (over v at) s w)) (is_anchor_same w.block)
-        ∙ ap (λ x. nat_lt w.block v.on_device && (not (is_anchor v w.block) || x)) (allowed_same w (same.anchors w.block anchor))
+        ∙ ap (λ x. nat_lt w.block v.on_device && (not (is_anchor v w.block) || x)) (allowed_same w inside (same.anchors w.block anchor))
     | inr other ↦
         ap (λ x. nat_lt w.block v.on_device && (not x || is_allowed_write (over v at) s w)) (is_anchor_same w.block ∙ other)
         ∙ sym (ap (λ x. nat_lt w.block v.on_device && (not x || is_allowed_write v s w)) other)
@@ -253,7 +242,7 @@ module _ (v : Volume) (s j : ℕ) (can : CanReplay.CanReplay v s j) (at : ℕ �
   bad_same : bad_writes (over v at) s ≡ bad_writes v s
   bad_same =
       ap (λ ws. map (λ (w : LoggedBlock). (s, w.block)) (filter (λ w. not (is_sound_write (over v at) s w)) ws)) writes_same
-      ∙ ap (map (λ (w : LoggedBlock). (s, w.block))) (filter_agree_on _ _ (committed_writes v s) (λ w is. ap not (sound_write_same w)))
+      ∙ ap (map (λ (w : LoggedBlock). (s, w.block))) (filter_agree_on _ _ (committed_writes v s) (λ w is. ap not (sound_write_same w is)))
 
   log_fault_same : log_fault (over v at) ≡ log_fault v
   unfolding log_fault
