@@ -2,8 +2,8 @@
 pub mod SameDirectory
 pub mod SameJournal
 pub mod Written
-pub mod CanReplay
 pub mod OneSlot
+pub mod CanReplay
 pub mod SameRead
 pub mod WholeWrites
 pub mod Alike
@@ -13,5 +13,6 @@ pub mod SuperKept
 pub mod ChosenImage
 pub mod ChosenVolume
 pub mod ReplayedSectors
+pub mod OneTransaction
 pub mod Choice
 pub mod FourTell

@@ -1,5 +1,5 @@
 -- Four images that tell whether a replay may be stopped and started again, where one slot is dirty.
-use Rattle.std.specs.Prelude.{◌≡◌, ◌⊎◌, ℕ, ◌<◌, nat_eq, false, List, [], ◌∷◌, map, length, Some, if◌then◌else◌}
+use Rattle.std.specs.Prelude.{◌≡◌, ◌≢◌, ◌⊎◌, ℕ, ◌<◌, nat_eq, false, List, [], ◌∷◌, map, length, Some, if◌then◌else◌}
 use Rattle.std.specs.List.{IsDistinct}
 use Rattle.o2_disk.specs.Image.{Image, sector, image_of}
 use Rattle.o2_model.specs.Words.{among}
@@ -43,7 +43,7 @@ pub record HasOneLog (I : Image) (v : Volume) (slot journal : ℕ) : Type 0 wher
   -- no two of the writes that a replay applies are to one block
   pub once : IsDistinct nat_eq (map (λ w. w.block) (committed_writes v slot))
   -- no other inode that a journal's name tells is marked dirty
-  pub others_clean : (s b : ℕ) → IsCounted v s → IsNamed v s b → (b ≡ journal → ⊥) → IsUnmarked v b
+  pub others_clean : (s b : ℕ) → IsCounted v s → IsNamed v s b → b ≢ journal → IsUnmarked v b
 
 -- The image can be replayed, also with the first sectors of block 2 and of the system directory as the replay leaves them.
 pub record AreFourReplayable (I : Image) (v : Volume) : Type 0 where

@@ -1,11 +1,13 @@
 // Laws of consistent images and of replays, each the contract of a function that does nothing.
-ghost use Rattle.std.specs.Prelude.{◌≡◌, Some, [], ℕ, length};
+ghost use Rattle.std.specs.Prelude.{◌≡◌, Some, [], ◌∷◌, ℕ, length, map, nat_eq};
+ghost use Rattle.std.specs.List.{IsDistinct};
 ghost use Rattle.o2_disk.specs.Image.{Image};
 ghost use Rattle.o2_model.specs.declared.check.Check.{Check};
 ghost use Rattle.o2_model.specs.Volume.{Volume, opened};
 ghost use Rattle.o2_model.specs.Failing.{faults, failing, Holds};
 ghost use Rattle.o2_model.specs.Consistent.{IsConsistent};
-ghost use Rattle.o2_model.specs.Dirty.{dirty_slots, all_committed_writes};
+ghost use Rattle.o2_model.specs.Logs.{Transaction};
+ghost use Rattle.o2_model.specs.Dirty.{dirty_slots, log_of, committed_writes, all_committed_writes};
 ghost use Rattle.o2_model.specs.Replay.{replayed, IsPartialReplay, IsReplayable, IsReplayStable};
 ghost use Rattle.o2_model.specs.FourImages.{HasOneLog, AreFourReplayable};
 
@@ -39,7 +41,9 @@ pub fn replay_keeps_length()
 {}
 
 /// A law: where one slot is dirty and its log writes each block once, four images tell that a replay may be stopped and started
-/// again.
+/// again. A log of one transaction does so where the transaction names no block twice.
 pub fn four_images_tell_stability()
-    ensures { (I : Image) (v : Volume) (slot journal : ℕ) → HasOneLog I v slot journal → AreFourReplayable I v → IsReplayStable I }
+    ensures stable { (I : Image) (v : Volume) (slot journal : ℕ) → HasOneLog I v slot journal → AreFourReplayable I v → IsReplayStable I }
+    ensures one_transaction { (v : Volume) (slot : ℕ) (t : Transaction) → log_of v slot ≡ t ∷ [] → IsDistinct nat_eq (map (λ w. w.block) t.writes)
+        → IsDistinct nat_eq (map (λ w. w.block) (committed_writes v slot)) }
 {}

@@ -57,7 +57,10 @@ module _ (v u : Volume) (sizes : SameSizes v u) (j : ℕ) (same : SameOn (journa
 
   log_blocks_alike : log_blocks u j ≡ log_blocks v j
   unfolding log_blocks
-  log_blocks_alike = rw (block_alike 0, map_agree (journal_block u j) (journal_block v j) (from_to (journal_super v j).start (journal_super v j).maxlen ++ from_to (journal_super v j).first (journal_super v j).start) (λ k is. block_alike k)) refl
+  log_blocks_alike =
+      let super = journal_super v j in
+      let places = from_to super.start super.maxlen ++ from_to super.first super.start in
+      rw (block_alike 0, map_agree (journal_block u j) (journal_block v j) places (λ k is. block_alike k)) refl
 
   pub log_alike : log_in u j ≡ log_in v j
   unfolding log_in

@@ -1,6 +1,6 @@
 -- A volume that can be replayed, where one slot is dirty: its anchors, and what its log writes of them.
-use Rattle.std.proofs.Common.{◌≡◌, ◌⊎◌, inl, inr, ⊎_elim, ℕ, ◌≤◌, Bool, true, false, ◌||◌, ◌&&◌, not, ◌==◌, List, [], ◌∷◌, ◌++◌, map, refl, sym, ◌∙◌, ap, subst, Option, Some, None, arith}
-use Rattle.std.specs.Prelude.{flat_map, filter, nat_eq, option_and_then, nat_lt, drop, bytes_eq}
+use Rattle.std.proofs.Common.{◌≡◌, ◌⊎◌, inl, inr, ⊎_elim, ℕ, ◌≤◌, true, false, ◌||◌, ◌&&◌, ◌==◌, [], ◌∷◌, ◌++◌, refl, sym, ◌∙◌, ap, subst, Option, Some, None, arith}
+use Rattle.std.specs.Prelude.{flat_map, nat_eq, option_and_then, nat_lt, drop, bytes_eq}
 use Rattle.std.specs.List.{list_all, Contains, IsDistinct}
 use Rattle.std.specs.Option.{option_map_or}
 use Rattle.std.proofs.lemmas.Bool.{cases_Bool, or_left, or_right, or_cases, and_parts, eq-eqb, eqb-true, false≢true}
@@ -9,8 +9,7 @@ use Rattle.std.proofs.lemmas.Slice.Eq.{bytes_eq-Decides}
 use Rattle.o2_model.specs.declared.journal_part.JournalPart.{JournalPart}
 use Rattle.o2_model.specs.declared.system_file.SlotFile.TheVariants.{Journal}
 use Rattle.o2_model.specs.declared.system_file.SystemFile.TheVariants.{OfSlot}
-use Rattle.o2_model.specs.Words.{among, fails_unless}
-use Rattle.o2_model.specs.Orders.{first_of}
+use Rattle.o2_model.specs.Words.{among}
 use Rattle.o2_model.specs.Frames.{SameOn}
 use Rattle.o2_model.specs.Volume.{Volume}
 use Rattle.o2_model.specs.Inodes.{extents}
@@ -18,14 +17,15 @@ use Rattle.o2_model.specs.Directories.{directory_entries}
 use Rattle.o2_model.specs.SystemFiles.{slots}
 use Rattle.o2_model.specs.Journals.{named_journal, is_dirty}
 use Rattle.o2_model.specs.Logs.{LoggedBlock}
-use Rattle.o2_model.specs.Dirty.{is_journal, journal_if, slot_journal, is_dirty_slot, dirty_slots, journal_part_fault, slot_fault, journal_fault, committed_writes, all_committed_writes, bytes_after, as_logged}
+use Rattle.o2_model.specs.Dirty.{slot_journal, is_dirty_slot, dirty_slots, journal_part_fault, slot_fault, journal_fault, committed_writes, all_committed_writes, bytes_after, as_logged}
 use Rattle.o2_model.specs.Anchors.{directory_anchors, journal_anchors, anchors_of, is_anchor, is_super_change, is_directory_change, is_journal_change, is_allowed_write, keeps_journal, is_sound_write, bad_writes, log_fault}
 use Rattle.o2_model.specs.Checks.Super.{super_faults}
 use Rattle.o2_model.specs.Checks.Sysdir.{is_sound_directory, sysdir_faults}
-use Rattle.o2_model.proofs.Members.{contains_filter, contains_cases}
+use Rattle.o2_model.proofs.Members.{contains_filter}
 use Rattle.o2_model.proofs.Found.{contains_first}
 use Rattle.o2_model.proofs.Stable.SameDirectory.{among_left, among_right, among_first, sound_extents, directory_is_anchor, directory_entries_same, system_inode_same}
 use Rattle.o2_model.proofs.Stable.SameJournal.{usable_extents}
+use Rattle.o2_model.proofs.Stable.OneSlot.{holds_unless, first_none, map_none, none_filtered, told, named_by_slot}
 use Rattle.o2_model.proofs.Stable.Written.{writes_to, write_of, not_written, bytes_kept, first_apart, parts_apart}
 
 -- The one dirty slot of the volume is s, its journal is j, and the volume can be replayed.
@@ -44,43 +44,6 @@ pub record IsAllowedKind (v : Volume) (j : ℕ) (w : LoggedBlock) : Type 0 where
   pub on_super : w.block ≡ 2 → is_super_change v w ≡ true
   pub on_directory : w.block ≡ v.geo.sysdir → is_directory_change v w ≡ true
   pub where_to : (b : ℕ) → w.block ≡ b → (b ≡ 2) ⊎ ((b ≡ v.geo.sysdir) ⊎ (b ≡ j))
-
-holds_unless : (b : ℕ) (x : Bool) → fails_unless b x ≡ [] → x ≡ true
-holds_unless b true h = refl
-holds_unless b false h = cc
-
-pub first_none : {A : Type 0} (xs : List A) → first_of xs ≡ None → xs ≡ []
-first_none [] h = refl
-first_none (x ∷ xs) h = cc
-
-map_none : {A B : Type 0} (f : A → B) (xs : List A) → map f xs ≡ [] → xs ≡ []
-map_none f [] h = refl
-map_none f (x ∷ xs) h = cc
-
-none_filtered : {A : Type 0} (p : A → Bool) (xs : List A) (x : A) → filter (λ y. not (p y)) xs ≡ [] → Contains xs x → p x ≡ true
-none_filtered p [] x none is = absurd (omega (arith, is.1))
-none_filtered p (y ∷ ys) x none is = elim (cases_Bool (p y)) [
-  | inl good ↦ elim (contains_cases y x ys is) [
-    | inl same ↦ rw (← same) good
-    | inr there ↦ none_filtered p ys x (rw good at none) there
-  ]
-  | inr bad ↦ let e : y ∷ filter (λ z. not (p z)) ys ≡ [] = rw bad at none in cc
-]
-
-abbrev told : ℕ → Option JournalPart → List (ℕ × JournalPart)
-told s o = option_map_or {U = List (ℕ × JournalPart)} (λ part. (s, part) ∷ []) o []
-
--- the journal that a slot's name names
-pub named_by_slot : (v : Volume) (s j : ℕ) → slot_journal v s ≡ Some j → (named_journal v s ≡ Some j) × (is_journal v j ≡ true)
-unfolding slot_journal
-named_by_slot v s j is = go (named_journal v s) refl is
-  where
-    go : (o : Option ℕ) → named_journal v s ≡ o → option_and_then (journal_if v) o ≡ Some j → (named_journal v s ≡ Some j) × (is_journal v j ≡ true)
-    go None named h = cc
-    go (Some b) named h = elim (cases_Bool (is_journal v b)) [
-      | inl good ↦ let e : Some b ≡ Some j = rw good at h in let same : b ≡ j = cc in (cc, subst (λ x. is_journal v x ≡ true) same good)
-      | inr bad ↦ let e : None ≡ Some j = rw bad at h in cc
-    ]
 
 module _ (v : Volume) (s j : ℕ) (can : CanReplay v s j) where
   pub one_dirty : is_dirty_slot v s ≡ true
@@ -236,7 +199,9 @@ module _ (v : Volume) (s j : ℕ) (can : CanReplay v s j) where
   directory_kept none = record {
     same = λ b h. ap (λ ws. bytes_after ws b (v.at b)) all_writes ∙ bytes_kept (committed_writes v s) b (v.at b) (elim (cases_Bool (b == v.geo.sysdir)) [
       | inl is ↦ ap (writes_to (committed_writes v s)) (eqb-true b v.geo.sysdir is) ∙ none
-      | inr other ↦ anchor_not_written b (directory_block_is_anchor b h) (λ e. directory_not_two b h (sym e)) (λ e. absurd (false≢true (sym other ∙ eq-eqb b v.geo.sysdir e))) (directory_not_journal b h)
+      | inr other ↦
+          let apart : b ≡ v.geo.sysdir → ⊥ = λ e. absurd (false≢true (sym other ∙ eq-eqb b v.geo.sysdir e)) in
+          anchor_not_written b (directory_block_is_anchor b h) (λ e. directory_not_two b h (sym e)) apart (directory_not_journal b h)
     ]);
   }
 
@@ -260,7 +225,10 @@ module _ (v : Volume) (s j : ℕ) (can : CanReplay v s j) where
   unfolding as_logged
   logged_name = elim (cases_Bool (writes_to (committed_writes v s) v.geo.sysdir)) [
     | inr none ↦ system_inode_same v _ (OfSlot Journal s) (logged_entries_kept none) ∙ (named_by_slot v s j can.journal).0
-    | inl written ↦ same_name (named_journal (as_logged v) s) (ap (λ o. option_map_or (λ b. option_map_or (λ c. b == c) (named_journal (as_logged v) s) false) o false) (sym (named_by_slot v s j can.journal).0) ∙ (directory_change written).1)
+    | inl written ↦
+        let later = named_journal (as_logged v) s in
+        let named = (named_by_slot v s j can.journal).0 in
+        same_name later (ap (λ o. option_map_or (λ b. option_map_or (λ c. b == c) later false) o false) (sym named) ∙ (directory_change written).1)
   ]
     where
       same_name : (o : Option ℕ) → option_map_or (λ c. j == c) o false ≡ true → o ≡ Some j

@@ -96,7 +96,8 @@ module _ (J F V : Image) (bits k s j : ℕ) (is : IsChosen J F V bits k s j) whe
         | inl old ↦ inl (sized F J b (block_by_first k F J b (first ∙ subst (λ n. sector V n ≡ sector J n) zeroth old) (chosen_rest b)))
         | inr put ↦
             let bytes : block_at (512 * k) F b ≡ put.write.bytes
-            = block_is_write k J F b put.write.bytes (is.torn.whole put.write put.inside) (first ∙ (ap (λ n. sector V n) (sym zeroth) ∙ put.bytes)) (keeps b anchor put.write put.inside put.at_block) (chosen_rest b) in
+            = block_is_write k J F b put.write.bytes (is.torn.whole put.write put.inside) (first ∙ (ap (λ n. sector V n) (sym zeroth) ∙ put.bytes))
+            (keeps b anchor put.write put.inside put.at_block) (chosen_rest b) in
             inr (put.write, put.inside, put.at_block, ap (λ n. block_at n F b) is.size ∙ bytes)
       ]
 

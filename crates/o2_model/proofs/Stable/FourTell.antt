@@ -116,7 +116,9 @@ module _ (I : Image) (bits s j : ℕ) (found : superblock_bits I ≡ Some bits) 
   each_of_four false false = rw (with_none (replayed I) I) four.neither
 
   whole : (w : LoggedBlock) → Contains (committed_writes v s) w → length w.bytes ≡ 512 * k
-  whole w inside = whole_writes v s j one.its_journal (sound.usable v s j can) (λ b. length-block (2 ^ bits) I b ∙ sym size_of_blocks) (omega (arith, size_of_blocks, size, some)) w inside ∙ (size_of_blocks ∙ size)
+  whole w inside =
+      let enough : 4 ≤ block_size v = omega (arith, size_of_blocks, size, some) in
+      whole_writes v s j one.its_journal (sound.usable v s j can) (λ b. length-block (2 ^ bits) I b ∙ sym size_of_blocks) enough w inside ∙ (size_of_blocks ∙ size)
 
   module _ (V : Image) (torn : IsTornReplay I v V) where
     torn_by : IsTornBy k (committed_writes v s) I V
@@ -131,7 +133,8 @@ module _ (I : Image) (bits s j : ℕ) (found : superblock_bits I ≡ Some bits) 
     pick : (b : ℕ) → (b ≡ j → ⊥) → Pick I (replayed I) V (k * b)
     pick b apart = pick_first k (committed_writes v s) I (replayed I) V some torn_by b (λ w inside at there.
         subst (λ c. sector (replayed I) (k * c) ≡ piece w.bytes 0) at
-        (sector_replayed I v s j k (opened_of I bits found) one.one_slot one.its_journal (size_of_blocks ∙ size) some whole one.once w inside (λ e. apart (sym at ∙ e)) (subst (λ c. k * c < length I) (sym at) there)))
+        (sector_replayed I v s j k (opened_of I bits found) one.one_slot one.its_journal (size_of_blocks ∙ size) some whole one.once w inside
+        (λ e. apart (sym at ∙ e)) (subst (λ c. k * c < length I) (sym at) there)))
 
     first : Pick I (replayed I) V (k * 2)
     first = pick 2 (sound.two_not_journal v s j can)
@@ -144,6 +147,9 @@ module _ (I : Image) (bits s j : ℕ) (found : superblock_bits I ≡ Some bits) 
 
     abbrev F : Image
     F = with_sectors (chosen (k * 2) (k * v.geo.sysdir) first.is_new second.is_new) (replayed I) I
+
+    length_same : length V ≡ length F
+    length_same = torn.size ∙ sym (length-with_sectors (chosen (k * 2) (k * v.geo.sysdir) first.is_new second.is_new) (replayed I) I)
 
     is : IsChosen I F V bits k s j
     is = record {
@@ -166,10 +172,10 @@ module _ (I : Image) (bits s j : ℕ) (found : superblock_bits I ≡ Some bits) 
     reads = torn_reads I F V bits k s j is chosen_can one.once one.others_clean
 
     same_volume : volume_of V bits ≡ over (volume_of F bits) (block_at (2 ^ bits) V)
-    same_volume = volume_of-over F V bits (torn.size ∙ sym (length-with_sectors (chosen (k * 2) (k * v.geo.sysdir) first.is_new second.is_new) (replayed I) I)) (two_same I F V bits k s j is)
+    same_volume = volume_of-over F V bits length_same (two_same I F V bits k s j is)
 
     torn_bits : superblock_bits V ≡ Some bits
-    torn_bits = superblock_same F V bits (chosen_bits I F V bits k s j is) (torn.size ∙ sym (length-with_sectors (chosen (k * 2) (k * v.geo.sysdir) first.is_new second.is_new) (replayed I) I)) (λ b low.
+    torn_bits = superblock_same F V bits (chosen_bits I F V bits k s j is) length_same (λ b low.
         reads.anchors b (sound.first_block_is_anchor (volume_of F bits) s j chosen_can b (few b low)))
 
     torn_can : sound.CanReplay (volume_of V bits) s j

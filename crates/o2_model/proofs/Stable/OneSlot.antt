@@ -1,6 +1,12 @@
 -- What the words of a replay say of a volume with one dirty slot.
-use Rattle.std.proofs.Common.{◌≡◌, inl, inr, ℕ, Bool, true, false, ◌&&◌, not, ◌==◌, List, [], ◌∷◌, ◌++◌, refl, Some}
+use Rattle.std.proofs.Common.{◌≡◌, inl, inr, ℕ, Bool, true, false, ◌&&◌, not, ◌==◌, List, [], ◌∷◌, ◌++◌, map, refl, subst, arith, Option, Some, None}
+use Rattle.std.specs.Prelude.{filter, option_and_then}
+use Rattle.std.specs.List.{Contains}
 use Rattle.std.specs.Option.{option_map_or}
+use Rattle.o2_model.specs.declared.journal_part.JournalPart.{JournalPart}
+use Rattle.o2_model.specs.Words.{fails_unless}
+use Rattle.o2_model.specs.Orders.{first_of}
+use Rattle.o2_model.proofs.Members.{contains_cases}
 use Rattle.std.proofs.lemmas.Bool.{cases_Bool}
 use Rattle.std.proofs.lemmas.List.{append-nil}
 use Rattle.o2_model.specs.Volume.{Volume}
@@ -9,6 +15,44 @@ use Rattle.o2_model.specs.Logs.{LoggedBlock}
 use Rattle.o2_model.specs.Dirty.{is_journal, journal_if, slot_journal, dirty_slots, as_logged}
 use Rattle.o2_model.specs.Anchors.{directory_anchors, journal_anchors, anchors_of, anchors_as_logged, with_logged, is_journal_change}
 use Rattle.o2_model.specs.Checks.Journal.{is_sound_journal}
+
+-- ---- what is empty
+pub holds_unless : (b : ℕ) (x : Bool) → fails_unless b x ≡ [] → x ≡ true
+holds_unless b true h = refl
+holds_unless b false h = cc
+
+pub first_none : {A : Type 0} (xs : List A) → first_of xs ≡ None → xs ≡ []
+first_none [] h = refl
+first_none (x ∷ xs) h = cc
+
+pub map_none : {A B : Type 0} (f : A → B) (xs : List A) → map f xs ≡ [] → xs ≡ []
+map_none f [] h = refl
+map_none f (x ∷ xs) h = cc
+
+pub none_filtered : {A : Type 0} (p : A → Bool) (xs : List A) (x : A) → filter (λ y. not (p y)) xs ≡ [] → Contains xs x → p x ≡ true
+none_filtered p [] x none is = absurd (omega (arith, is.1))
+none_filtered p (y ∷ ys) x none is = elim (cases_Bool (p y)) [
+  | inl good ↦ elim (contains_cases y x ys is) [
+    | inl same ↦ rw (← same) good
+    | inr there ↦ none_filtered p ys x (rw good at none) there
+  ]
+  | inr bad ↦ let e : y ∷ filter (λ z. not (p z)) ys ≡ [] = rw bad at none in cc
+]
+
+abbrev pub told : ℕ → Option JournalPart → List (ℕ × JournalPart)
+told s o = option_map_or {U = List (ℕ × JournalPart)} (λ part. (s, part) ∷ []) o []
+
+-- the journal that a slot's name names
+pub named_by_slot : (v : Volume) (s j : ℕ) → slot_journal v s ≡ Some j → (named_journal v s ≡ Some j) × (is_journal v j ≡ true)
+unfolding slot_journal
+named_by_slot v s j is = go (named_journal v s) refl is
+  where
+    go : (o : Option ℕ) → named_journal v s ≡ o → option_and_then (journal_if v) o ≡ Some j → (named_journal v s ≡ Some j) × (is_journal v j ≡ true)
+    go None named h = cc
+    go (Some b) named h = elim (cases_Bool (is_journal v b)) [
+      | inl good ↦ let e : Some b ≡ Some j = rw good at h in let same : b ≡ j = cc in (cc, subst (λ x. is_journal v x ≡ true) same good)
+      | inr bad ↦ let e : None ≡ Some j = rw bad at h in cc
+    ]
 
 -- an inode that is not marked is no dirty journal
 pub clean_if : (v : Volume) (b : ℕ) → is_dirty v b ≡ false → option_map_or (is_dirty v) (journal_if v b) false ≡ false

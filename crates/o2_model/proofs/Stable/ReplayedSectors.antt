@@ -40,7 +40,8 @@ AreWhole k ws = (w : LoggedBlock) → Contains ws w → length w.bytes ≡ 512 *
 length-block_put : (k : ℕ) (I : Image) (w : LoggedBlock) → length (with_block (512 * k) I w) ≡ length I
 length-block_put k I w = length-written I (first_sector (512 * k) w.block) w.bytes
 
-writes_other : (k : ℕ) → 1 ≤ k → (ws : List LoggedBlock) (I : Image) (b : ℕ) → AreWhole k ws → ((w : LoggedBlock) → Contains ws w → w.block ≡ b → ⊥) → sector (fold (with_block (512 * k)) I ws) (k * b) ≡ sector I (k * b)
+writes_other : (k : ℕ) → 1 ≤ k → (ws : List LoggedBlock) (I : Image) (b : ℕ) → AreWhole k ws → ((w : LoggedBlock) → Contains ws w → w.block ≡ b → ⊥)
+    → sector (fold (with_block (512 * k)) I ws) (k * b) ≡ sector I (k * b)
 writes_other k some [] I b whole apart = refl
 writes_other k some (w ∷ ws) I b whole apart =
     writes_other k some ws (with_block (512 * k) I w) b (λ x is. whole x (contains_later w x ws is)) (λ x is. apart x (contains_later w x ws is))

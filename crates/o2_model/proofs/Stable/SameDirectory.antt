@@ -16,6 +16,7 @@ use Rattle.o2_model.specs.Anchors.{directory_anchors}
 use Rattle.o2_model.specs.Checks.Extent.{extent_faults}
 use Rattle.o2_model.specs.Checks.InodeSize.{has_sound_size, inode_size_faults, is_size_of_kind}
 use Rattle.o2_model.specs.Checks.DirBlock.{dir_block_faults}
+use Rattle.o2_model.specs.Checks.DirentName.{dirent_name_faults}
 use Rattle.o2_model.specs.Checks.DirentDup.{dirent_dup_faults}
 use Rattle.o2_model.specs.Checks.Sysdir.{directory_faults, is_sound_directory}
 use Rattle.o2_model.proofs.Readings.{extents_same, faults_of_own_list}
@@ -107,7 +108,8 @@ own_entries : (v : Volume) (at : ℕ → List ℕ) → directory_entries (over v
 unfolding own_inodes
 own_entries v at entries = rw entries refl
 
-pub system_inode_same : (v : Volume) (at : ℕ → List ℕ) (file : SystemFile) → directory_entries (over v at) v.geo.sysdir ≡ directory_entries v v.geo.sysdir → system_inode (over v at) file ≡ system_inode v file
+pub system_inode_same : (v : Volume) (at : ℕ → List ℕ) (file : SystemFile) → directory_entries (over v at) v.geo.sysdir ≡ directory_entries v v.geo.sysdir
+    → system_inode (over v at) file ≡ system_inode v file
 unfolding system_inode
 system_inode_same v at file entries = rw entries refl
 
@@ -142,7 +144,10 @@ pub sound_extents : (v : Volume) (d : ℕ) → is_sound_directory v d ≡ true �
 unfolding is_sound_directory
 sound_extents v d sound =
     let parts = and_parts (is_valid v d && is_directory v d) (is_none_of (directory_faults v d)) sound in
-    sym (faults_of_own_list v d) ∙ first_none (extent_faults v d) _ (first_none (extent_faults v d ++ inode_size_faults v d) _ (first_none (extent_faults v d ++ inode_size_faults v d ++ dir_block_faults v d) _ (first_none _ (dirent_dup_faults v d) (nothing _ parts.1))))
+    let three = extent_faults v d ++ inode_size_faults v d ++ dir_block_faults v d in
+    let none : three ++ dirent_name_faults v d ≡ [] = first_none (three ++ dirent_name_faults v d) (dirent_dup_faults v d) (nothing (directory_faults v d) parts.1) in
+    let early : extent_faults v d ++ inode_size_faults v d ≡ [] = first_none _ (dir_block_faults v d) (first_none three (dirent_name_faults v d) none) in
+    sym (faults_of_own_list v d) ∙ first_none (extent_faults v d) (inode_size_faults v d) early
   where
     nothing : (ns : List ℕ) → is_none_of ns ≡ true → ns ≡ []
     nothing [] h = refl

@@ -94,7 +94,10 @@ module _ (v : Volume) (at : ℕ → List ℕ) (j : ℕ) (same : SameOn (journal_
 
   blocks_of_log_same : log_blocks (over v at) j ≡ log_blocks v j
   unfolding log_blocks
-  blocks_of_log_same = rw (journal_block_same 0, map_agree (journal_block (over v at) j) (journal_block v j) (from_to (journal_super v j).start (journal_super v j).maxlen ++ from_to (journal_super v j).first (journal_super v j).start) (λ k is. journal_block_same k)) refl
+  blocks_of_log_same =
+      let super = journal_super v j in
+      let places = from_to super.start super.maxlen ++ from_to super.first super.start in
+      rw (journal_block_same 0, map_agree (journal_block (over v at) j) (journal_block v j) places (λ k is. journal_block_same k)) refl
 
   pub log_in_same : log_in (over v at) j ≡ log_in v j
   unfolding log_in

@@ -14,20 +14,19 @@ use Rattle.o2_model.specs.Frames.{SameOn}
 use Rattle.o2_model.specs.Volume.{Volume, over}
 use Rattle.o2_model.specs.Directories.{directory_entries}
 use Rattle.o2_model.specs.SystemFiles.{slots}
-use Rattle.o2_model.specs.Journals.{named_journal, journal_super, is_dirty}
+use Rattle.o2_model.specs.Journals.{named_journal, is_dirty}
 use Rattle.o2_model.specs.Logs.{LoggedBlock, unrevoked}
 use Rattle.o2_model.specs.Dirty.{is_journal, journal_if, slot_journal, is_dirty_slot, dirty_slots, journal_part_fault, journal_fault, log_of, committed_writes, all_committed_writes, bytes_after, as_logged}
 use Rattle.o2_model.specs.Anchors.{directory_anchors, journal_anchors, anchors_of, anchors_as_logged, is_anchor, names_dirty_journal, is_clean_slot, keeps_journal, clusters_in, slots_in, with_old_numbers, with_logged, is_super_change, is_directory_change, is_journal_change, is_allowed_write, is_sound_write, bad_writes, log_fault}
 use Rattle.o2_model.specs.Checks.Super.{is_sound_super, super_faults}
 use Rattle.o2_model.specs.Checks.Sysdir.{is_sound_directory, sysdir_faults}
-use Rattle.o2_model.specs.Checks.Journal.{is_sound_journal}
 use Rattle.o2_model.specs.Replay.{dirty_journals}
 use Rattle.o2_model.proofs.Found.{range_bounds}
 use Rattle.o2_model.proofs.Members.{contains_filter}
 use Rattle.o2_model.proofs.Agreeing.{filter_agree_on, all_agree, option_agree}
 use Rattle.o2_model.proofs.Stable.SameDirectory.{sound_directory_same, directory_entries_same, directory_anchors_same, system_inode_same}
 use Rattle.o2_model.proofs.Stable.SameJournal.{is_journal_same, is_dirty_same, journal_inode_same, journal_anchors_same, part_fault_same, log_in_same}
-use Rattle.o2_model.proofs.Stable.OneSlot.{clean_if, no_dirty_journal, becomes_empty, is_change, anchors_by, logged_anchors_by}
+use Rattle.o2_model.proofs.Stable.OneSlot.{named_by_slot, clean_if, no_dirty_journal, becomes_empty, is_change, anchors_by, logged_anchors_by}
 use Rattle.o2_model.proofs.Stable.CanReplay
 
 -- The volume counts the slot, or a write to block 2 does.
@@ -100,7 +99,7 @@ module _ (v : Volume) (s j : ℕ) (can : CanReplay.CanReplay v s j) (at : ℕ �
   pub journal_same : slot_journal (over v at) s ≡ Some j
   unfolding slot_journal
   journal_same =
-      let named = CanReplay.named_by_slot v s j can.journal in
+      let named = named_by_slot v s j can.journal in
       ap (option_and_then (journal_if (over v at))) (names_same s ∙ named.0) ∙ rw (is_journal_same v at j journal_here, named.1) refl
 
   pub journals_same : dirty_journals (over v at) ≡ dirty_journals v

@@ -64,8 +64,10 @@ module _ (old new : List ℕ) (long : 512 ≤ length old) (enough : 512 ≤ leng
       let two = length-part 0x100 2 (omega arith) in
       let three = length-part 0x110 64 (omega arith) in
       sym (number_at-paste_at_apart 0x110 (bytes_at 0x110 64 old) new (omega (arith, enough, three)) from width (⊎_elim (λ low. inl low) (λ high. inr (omega (arith, high, three))) place.label))
-      ∙ (sym (number_at-paste_at_apart 0x100 (bytes_at 0x100 2 old) labelled (omega (arith, enough, length-labelled, two)) from width (⊎_elim (λ low. inl low) (λ high. inr (omega (arith, high, two))) place.slots))
-      ∙ (sym (number_at-paste_at_apart 0x14 (bytes_at 0x14 4 old) counted (omega (arith, enough, length-counted, one)) from width (⊎_elim (λ low. inl low) (λ high. inr (omega (arith, high, one))) place.clusters))
+      ∙ (sym (number_at-paste_at_apart 0x100 (bytes_at 0x100 2 old) labelled (omega (arith, enough, length-labelled, two)) from width
+      (⊎_elim (λ low. inl low) (λ high. inr (omega (arith, high, two))) place.slots))
+      ∙ (sym (number_at-paste_at_apart 0x14 (bytes_at 0x14 4 old) counted (omega (arith, enough, length-counted, one)) from width
+      (⊎_elim (λ low. inl low) (λ high. inr (omega (arith, high, one))) place.clusters))
       ∙ ap (number_at from width) is))
 
   -- in the super's part
@@ -85,7 +87,8 @@ module _ (old new : List ℕ) (long : 512 ≤ length old) (enough : 512 ≤ leng
 pub super_change_keeps : (v : Volume) (w : LoggedBlock) → 512 ≤ length (v.at 2) → 512 ≤ length w.bytes → is_super_change v w ≡ true → SuperKept (v.at 2) w.bytes
 unfolding is_super_change
 super_change_keeps v w long enough h =
-    let one = and_parts (w.block == 2 && bytes_eq (with_old_numbers (v.at 2) w.bytes) (v.at 2) && nat_le (clusters_in w.bytes) (2 ^ 30) && list_all (λ slot. nat_lt slot (slots_in w.bytes)) (dirty_slots v)) _ h in
+    let one = and_parts (w.block == 2 && bytes_eq (with_old_numbers (v.at 2) w.bytes) (v.at 2) && nat_le (clusters_in w.bytes) (2 ^ 30)
+    && list_all (λ slot. nat_lt slot (slots_in w.bytes)) (dirty_slots v)) _ h in
     let two = and_parts (w.block == 2 && bytes_eq (with_old_numbers (v.at 2) w.bytes) (v.at 2) && nat_le (clusters_in w.bytes) (2 ^ 30)) _ one.0 in
     let three = and_parts (w.block == 2 && bytes_eq (with_old_numbers (v.at 2) w.bytes) (v.at 2)) _ two.0 in
     let four = and_parts (w.block == 2) _ three.0 in

@@ -1,17 +1,17 @@
 -- The writes of a log are of whole blocks, as the log's own blocks are.
-use Rattle.std.proofs.Common.{◌≡◌, inl, inr, ⊎_elim, ℕ, zero, suc, ◌+◌, ◌-◌, ◌%◌, ◌^◌, ◌<◌, ◌≤◌, Bool, true, false, ◌&&◌, ◌||◌, not, ◌==◌, List, [], ◌∷◌, ◌++◌, map, length, drop, refl, sym, ◌∙◌, ap, subst, arith, Option, Some, None, length-append, length-drop}
+use Rattle.std.proofs.Common.{◌≡◌, inl, inr, ⊎_elim, ℕ, zero, suc, ◌+◌, ◌%◌, ◌^◌, ◌<◌, ◌≤◌, Bool, true, ◌&&◌, not, ◌==◌, List, [], ◌∷◌, ◌++◌, map, length, drop, refl, ◌∙◌, ap, subst, arith, Some, None, length-append, length-drop}
 use Rattle.std.specs.Prelude.{filter, slice_get, nat_le, nat_lt}
 use Rattle.std.specs.List.{AllByRecursion, Contains, range_with_len}
 use Rattle.std.specs.Option.{option_map_or}
-use Rattle.std.proofs.lemmas.Bool.{cases_Bool, and_parts, or_cases, eqb-true, leb-true, ltb-true, false≢true}
+use Rattle.std.proofs.lemmas.Bool.{cases_Bool, and_parts, leb-true, ltb-true}
 use Rattle.o2_model.specs.declared.journal_part.JournalPart.TheVariants as part
 use Rattle.o2_model.specs.Orders.{from_to}
 use Rattle.o2_model.specs.Volume.{Volume, block_size}
 use Rattle.o2_model.specs.Journals.{journal_blocks, journal_block, journal_super, has_sound_bounds, log_magic, is_sound_journal_super}
 use Rattle.o2_model.specs.Logs.{Tag, LoggedBlock, Transaction, no_writes, with_write, with_revokes, unescaped, magic_bytes, tags_of, revokes_of, has_log_header, descriptor_type, revoke_type, commit_type, read_log, is_wide, log_blocks, log_in, is_revoked_by, unrevoked}
-use Rattle.o2_model.specs.Dirty.{slot_journal, has_journal_extents, journal_part_fault, log_of, committed_writes}
+use Rattle.o2_model.specs.Dirty.{slot_journal, journal_part_fault, log_of, committed_writes}
 use Rattle.std.proofs.lemmas.List.Elements.{Contains-append_cases}
-use Rattle.o2_model.proofs.Found.{each_of, all_push, all_map, range_bounds, contains_first, contains_later}
+use Rattle.o2_model.proofs.Found.{each_of, all_push, range_bounds, contains_first, contains_later}
 use Rattle.o2_model.proofs.Members.{contains_filter}
 use Rattle.o2_model.proofs.Stable.SameJournal.{usable_has_extents}
 
@@ -32,7 +32,8 @@ length-unescaped n tag bytes four long = elim (cases_Bool tag.is_escaped) [
   | inl escaped ↦ rw escaped (omega (arith, length-append magic_bytes (drop 4 bytes), length-drop 4 bytes, long, four))
 ]
 
-read_whole : (n : ℕ) → 4 ≤ n → (wide : Bool) (sequence : ℕ) (t : Transaction) (tags : List Tag) (blocks : List (List ℕ)) → AreWhole n t.writes → AreBytes n blocks → HaveWhole n (read_log wide sequence t tags blocks)
+read_whole : (n : ℕ) → 4 ≤ n → (wide : Bool) (sequence : ℕ) (t : Transaction) (tags : List Tag) (blocks : List (List ℕ)) → AreWhole n t.writes → AreBytes n blocks
+    → HaveWhole n (read_log wide sequence t tags blocks)
 read_whole n four wide sequence t tags [] so_far all = tt
 read_whole n four wide sequence t (tag ∷ tags) (b ∷ blocks) so_far all =
     read_whole n four wide sequence (with_write t tag b) tags blocks (all_push (λ w. length w.bytes ≡ n) t.writes _ so_far (length-unescaped n tag b four all.0)) all.1
@@ -62,7 +63,8 @@ all_joined P (x ∷ xs) ys all more = (all.0, all_joined P xs ys all.1 more)
 unrevoked_whole : (n : ℕ) (ts : List Transaction) → HaveWhole n ts → AreWhole n (unrevoked ts)
 unrevoked_whole n [] all = tt
 unrevoked_whole n (t ∷ ts) all =
-    all_joined (λ w. length w.bytes ≡ n) (filter (λ w. not (is_revoked_by (t ∷ ts) w.block)) t.writes) (unrevoked ts) (all_filtered (λ w. length w.bytes ≡ n) _ t.writes all.0) (unrevoked_whole n ts all.1)
+    let here = filter (λ w. not (is_revoked_by (t ∷ ts) w.block)) t.writes in
+    all_joined (λ w. length w.bytes ≡ n) here (unrevoked ts) (all_filtered (λ w. length w.bytes ≡ n) _ t.writes all.0) (unrevoked_whole n ts all.1)
 
 -- ---- the blocks of a log
 got : (ns : List ℕ) (k : ℕ) → k < length ns → (n : ℕ) × (slice_get ns k ≡ Some n)
@@ -103,9 +105,11 @@ module _ (v : Volume) (j : ℕ) (whole : (b : ℕ) → length (v.at b) ≡ block
   log_whole none =
       let super = journal_super v j in
       let bounds = sound_bounds v j none in
-      let fits : super.maxlen ≤ length (journal_blocks v j) = leb-true _ _ (and_parts (nat_le super.maxlen (length (journal_blocks v j))) _ (and_parts (nat_le super.maxlen (length (journal_blocks v j)) && nat_le 1 super.first) _
-      (and_parts (nat_le super.maxlen (length (journal_blocks v j)) && nat_le 1 super.first && nat_lt super.first super.maxlen) _ bounds).0).0).0 in
-      let place = (and_parts (nat_le super.maxlen (length (journal_blocks v j)) && nat_le 1 super.first && nat_lt super.first super.maxlen) _ bounds).1 in
+      let many = length (journal_blocks v j) in
+      let last = and_parts (nat_le super.maxlen many && nat_le 1 super.first && nat_lt super.first super.maxlen) _ bounds in
+      let second = and_parts (nat_le super.maxlen many && nat_le 1 super.first) _ last.0 in
+      let fits : super.maxlen ≤ many = leb-true _ _ (and_parts (nat_le super.maxlen many) _ second.0).0 in
+      let place = last.1 in
       elim (cases_Bool (super.start == 0)) [
         | inl empty ↦ rw empty tt
         | inr begun ↦

@@ -62,7 +62,8 @@ unfolding IsDistinct
 bytes_of_write [] w before distinct is = absurd (omega (arith, is.1))
 bytes_of_write (x ∷ ws) w before distinct is = elim (contains_cases x w ws is) [
   | inl here ↦
-      let none : writes_to ws w.block ≡ false = not_written ws w.block (λ y inside same. absurd (false≢true (sym (apart x ws y distinct.0 inside) ∙ eq-eqb x.block y.block (ap (λ z. z.block) here ∙ sym same)))) in
+      let none : writes_to ws w.block ≡ false = not_written ws w.block (λ y inside same.
+      absurd (false≢true (sym (apart x ws y distinct.0 inside) ∙ eq-eqb x.block y.block (ap (λ z. z.block) here ∙ sym same)))) in
       rw (eq-eqb x.block w.block (ap (λ z. z.block) here)) (bytes_kept ws w.block x.bytes none ∙ ap (λ z. z.bytes) here)
   | inr there ↦ bytes_of_write ws w _ distinct.1 there
 ]
