@@ -35,6 +35,7 @@ IsUnmarked v b = (is_dirty v b ≡ false) × (is_dirty (as_logged v) b ≡ false
 
 -- One slot of the volume in the image is dirty, and its log writes each block once.
 pub record HasOneLog (I : Image) (v : Volume) (slot journal : ℕ) : Type 0 where
+  -- this is the volume in the image
   pub is_opened : opened I ≡ Some v
   -- it is the one dirty slot
   pub one_slot : dirty_slots v ≡ slot ∷ []
@@ -42,7 +43,7 @@ pub record HasOneLog (I : Image) (v : Volume) (slot journal : ℕ) : Type 0 wher
   pub its_journal : slot_journal v slot ≡ Some journal
   -- no two of the writes that a replay applies are to one block
   pub once : IsDistinct nat_eq (map (λ w. w.block) (committed_writes v slot))
-  -- no other inode that a journal's name tells is marked dirty
+  -- no other inode that the name of a counted slot's journal tells is marked dirty
   pub others_clean : (s b : ℕ) → IsCounted v s → IsNamed v s b → b ≢ journal → IsUnmarked v b
 
 -- The image can be replayed, also with the first sectors of block 2 and of the system directory as the replay leaves them.

@@ -1,12 +1,13 @@
 -- What the words of a replay say of a volume with one dirty slot.
-use Rattle.std.proofs.Common.{◌≡◌, inl, inr, ℕ, Bool, true, false, ◌&&◌, not, ◌==◌, List, [], ◌∷◌, ◌++◌, map, refl, subst, arith, Option, Some, None}
-use Rattle.std.specs.Prelude.{filter, option_and_then}
-use Rattle.std.specs.List.{Contains}
+use Rattle.std.proofs.Common.{◌≡◌, inl, inr, ℕ, ◌<◌, Bool, true, false, ◌&&◌, not, ◌==◌, List, [], ◌∷◌, ◌++◌, map, refl, subst, arith, Option, Some, None}
+use Rattle.std.specs.Prelude.{filter, nat_lt, option_and_then}
+use Rattle.std.specs.List.{Contains, range_with_len}
 use Rattle.std.specs.Option.{option_map_or}
 use Rattle.o2_model.specs.declared.journal_part.JournalPart.{JournalPart}
 use Rattle.o2_model.specs.Words.{fails_unless}
-use Rattle.o2_model.specs.Orders.{first_of}
-use Rattle.o2_model.proofs.Members.{contains_cases}
+use Rattle.o2_model.specs.Orders.{first_of, from_to}
+use Rattle.o2_model.proofs.Found.{range_bounds}
+use Rattle.o2_model.proofs.Members.{contains_cases, contains_filter}
 use Rattle.std.proofs.lemmas.Bool.{cases_Bool}
 use Rattle.std.proofs.lemmas.List.{append-nil}
 use Rattle.o2_model.specs.Volume.{Volume}
@@ -15,6 +16,13 @@ use Rattle.o2_model.specs.Logs.{LoggedBlock}
 use Rattle.o2_model.specs.Dirty.{is_journal, journal_if, slot_journal, dirty_slots, as_logged}
 use Rattle.o2_model.specs.Anchors.{directory_anchors, journal_anchors, anchors_of, anchors_as_logged, with_logged, is_journal_change}
 use Rattle.o2_model.specs.Checks.Journal.{is_sound_journal}
+
+-- ---- numbers of a range
+pub below : (count n : ℕ) → Contains (range_with_len 0 count) n → n < count
+below count n is = omega (arith, (range_bounds 0 count n is).1)
+
+pub below_high : (low high n : ℕ) → Contains (from_to low high) n → n < high
+below_high low high n is = below high n (contains_filter (λ m. not (nat_lt m low)) (range_with_len 0 high) n is).0
 
 -- ---- what is empty
 pub holds_unless : (b : ℕ) (x : Bool) → fails_unless b x ≡ [] → x ≡ true

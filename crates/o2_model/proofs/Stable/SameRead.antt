@@ -1,8 +1,8 @@
 -- Blocks that agree on what a replay reads of a volume with one dirty slot: the volume over them can be replayed as well.
-use Rattle.std.proofs.Common.{◌≡◌, ◌⊎◌, inl, inr, ℕ, ◌<◌, Bool, true, false, cond, ◌||◌, ◌&&◌, not, ◌==◌, List, [], ◌∷◌, ◌++◌, map, refl, sym, ◌∙◌, ap, subst, Option, Some, None, arith}
+use Rattle.std.proofs.Common.{◌≡◌, ◌⊎◌, inl, inr, ℕ, ◌<◌, Bool, true, false, cond, ◌||◌, ◌&&◌, not, ◌==◌, List, [], ◌∷◌, ◌++◌, map, refl, sym, ◌∙◌, ap, subst, Option, Some, None}
 use Rattle.std.proofs.Math.Path.{fun_ext}
 use Rattle.std.specs.Prelude.{filter, nat_eq, option_and_then, nat_lt, drop, bytes_eq, nat_le, ◌^◌}
-use Rattle.std.specs.List.{list_all, Contains, IsDistinct, range_with_len}
+use Rattle.std.specs.List.{list_all, Contains, IsDistinct}
 use Rattle.std.specs.Option.{option_map_or}
 use Rattle.std.proofs.lemmas.Bool.{cases_Bool, eqb-true}
 use Rattle.std.proofs.lemmas.List.{append-nil}
@@ -21,12 +21,10 @@ use Rattle.o2_model.specs.Anchors.{directory_anchors, journal_anchors, anchors_o
 use Rattle.o2_model.specs.Checks.Super.{is_sound_super, super_faults}
 use Rattle.o2_model.specs.Checks.Sysdir.{is_sound_directory, sysdir_faults}
 use Rattle.o2_model.specs.Replay.{dirty_journals}
-use Rattle.o2_model.proofs.Found.{range_bounds}
-use Rattle.o2_model.proofs.Members.{contains_filter}
 use Rattle.o2_model.proofs.Agreeing.{filter_agree_on, all_agree, option_agree}
 use Rattle.o2_model.proofs.Stable.SameDirectory.{sound_directory_same, directory_entries_same, directory_anchors_same, system_inode_same}
 use Rattle.o2_model.proofs.Stable.SameJournal.{is_journal_same, is_dirty_same, journal_inode_same, journal_anchors_same, part_fault_same, log_in_same}
-use Rattle.o2_model.proofs.Stable.OneSlot.{named_by_slot, clean_if, no_dirty_journal, becomes_empty, is_change, anchors_by, logged_anchors_by}
+use Rattle.o2_model.proofs.Stable.OneSlot.{below, below_high, named_by_slot, clean_if, no_dirty_journal, becomes_empty, is_change, anchors_by, logged_anchors_by}
 use Rattle.o2_model.proofs.Stable.CanReplay
 
 -- The volume counts the slot, or a write to block 2 does.
@@ -40,12 +38,6 @@ pub record SameRead (v : Volume) (s : ℕ) (at : ℕ → List ℕ) : Type 0 wher
   pub marks : (slot b : ℕ) → IsCountedBy v s slot → (named_journal v slot ≡ Some b) ⊎ (named_journal (as_logged v) slot ≡ Some b)
       → (at b ≡ v.at b) ⊎ ((is_dirty v b ≡ false) × (is_dirty (over v at) b ≡ false))
   pub logged : (b : ℕ) → bytes_after (committed_writes v s) b (at b) ≡ bytes_after (committed_writes v s) b (v.at b)
-
-below : (count slot : ℕ) → Contains (range_with_len 0 count) slot → slot < count
-below count slot is = omega (arith, (range_bounds 0 count slot is).1)
-
-below_high : (low high slot : ℕ) → Contains (from_to low high) slot → slot < high
-below_high low high slot is = below high slot (contains_filter (λ n. not (nat_lt n low)) (range_with_len 0 high) slot is).0
 
 module _ (v : Volume) (s j : ℕ) (can : CanReplay.CanReplay v s j) (at : ℕ → List ℕ) (same : SameRead v s at) where
   directory_same_on : SameOn (directory_anchors v v.geo.sysdir) v at

@@ -1,7 +1,7 @@
 -- The writes of a log are of whole blocks, as the log's own blocks are.
 use Rattle.std.proofs.Common.{◌≡◌, inl, inr, ⊎_elim, ℕ, zero, suc, ◌+◌, ◌%◌, ◌^◌, ◌<◌, ◌≤◌, Bool, true, ◌&&◌, not, ◌==◌, List, [], ◌∷◌, ◌++◌, map, length, drop, refl, ◌∙◌, ap, subst, arith, Some, None, length-append, length-drop}
 use Rattle.std.specs.Prelude.{filter, slice_get, nat_le, nat_lt}
-use Rattle.std.specs.List.{AllByRecursion, Contains, range_with_len}
+use Rattle.std.specs.List.{AllByRecursion, Contains}
 use Rattle.std.specs.Option.{option_map_or}
 use Rattle.std.proofs.lemmas.Bool.{cases_Bool, and_parts, leb-true, ltb-true}
 use Rattle.o2_model.specs.declared.journal_part.JournalPart.TheVariants as part
@@ -11,8 +11,8 @@ use Rattle.o2_model.specs.Journals.{journal_blocks, journal_block, journal_super
 use Rattle.o2_model.specs.Logs.{Tag, LoggedBlock, Transaction, no_writes, with_write, with_revokes, unescaped, magic_bytes, tags_of, revokes_of, has_log_header, descriptor_type, revoke_type, commit_type, read_log, is_wide, log_blocks, log_in, is_revoked_by, unrevoked}
 use Rattle.o2_model.specs.Dirty.{slot_journal, journal_part_fault, log_of, committed_writes}
 use Rattle.std.proofs.lemmas.List.Elements.{Contains-append_cases}
-use Rattle.o2_model.proofs.Found.{each_of, all_push, range_bounds, contains_first, contains_later}
-use Rattle.o2_model.proofs.Members.{contains_filter}
+use Rattle.o2_model.proofs.Found.{each_of, all_push, contains_first, contains_later}
+use Rattle.o2_model.proofs.Stable.OneSlot.{below_high}
 use Rattle.o2_model.proofs.Stable.SameJournal.{usable_has_extents}
 
 -- ---- what is read of whole blocks
@@ -96,9 +96,6 @@ module _ (v : Volume) (j : ℕ) (whole : (b : ℕ) → length (v.at b) ≡ block
       let here : k < high = low k (contains_first k ks) in
       (block_whole k (omega (arith, here, fits)), all_below high ks (λ l is. low l (contains_later k l ks is)) fits)
 
-  from_below : (low high k : ℕ) → Contains (from_to low high) k → k < high
-  from_below low high k is = omega (arith, (range_bounds 0 high k (contains_filter (λ n. not (nat_lt n low)) (range_with_len 0 high) k is).0).1)
-
   -- the log lies within the journal's blocks
   log_whole : journal_part_fault v j ≡ None → AreBytes (block_size v) (log_blocks v j)
   unfolding log_blocks
@@ -116,8 +113,8 @@ module _ (v : Volume) (j : ℕ) (whole : (b : ℕ) → length (v.at b) ≡ block
             let inside : (nat_le super.first super.start && nat_lt super.start super.maxlen) ≡ true = rw begun at place in
             let low : super.start < super.maxlen = ltb-true _ _ (and_parts (nat_le super.first super.start) _ inside).1 in
             rw begun (all_below super.maxlen (from_to super.start super.maxlen ++ from_to super.first super.start) (λ k is. ⊎_elim
-            (λ behind. from_below super.start super.maxlen k behind)
-            (λ around. let less = from_below super.first super.start k around in omega (arith, less, low))
+            (λ behind. below_high super.start super.maxlen k behind)
+            (λ around. let less = below_high super.first super.start k around in omega (arith, less, low))
             (Contains-append_cases (from_to super.start super.maxlen) (from_to super.first super.start) k is)) fits)
       ]
 
