@@ -31,3 +31,4 @@ pub mod GoodGroups
 pub mod WellRead
 pub mod Owned
 pub mod Kept
+pub mod Stable

@@ -53,7 +53,7 @@ pub grows_met : (v : Volume) (b : ℕ) (t : Extents) → Grows t (with_met v b t
 unfolding with_met
 grows_met v b t = grows_cond (is_sound_header (most_in_block v) (list_in_block v b).header) t _ _ (grows_block t b) (grows_both (grows_block t b) (grows_fault (with_block t b) b))
 
-reading_grows : (v : Volume) (m depth holder low : ℕ) (rs : List ExtentRec) (t : Extents) → Grows t (read_records v m depth holder low rs t)
+pub reading_grows : (v : Volume) (m depth holder low : ℕ) (rs : List ExtentRec) (t : Extents) → Grows t (read_records v m depth holder low rs t)
 reading_grows v m depth holder low [] t = grows_none t
 reading_grows v m zero holder low (r ∷ rs) t =
     grows_cond (leaf_clusters r == 0) t _ _ (reading_grows v m zero holder low rs t)

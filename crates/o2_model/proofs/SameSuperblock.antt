@@ -47,12 +47,12 @@ super_same X I bits size same =
     ∙ ap (λ bytes. nat_le (3 * 2 ^ bits) (512 * length I) && number_at 0x0 8 bytes == super_signature && (super_of (drop 0xc0 bytes)).blocksize_bits == bits) same
 
 -- numbers that do not fall
-abbrev Rise : List ℕ → Type 0
+abbrev pub Rise : List ℕ → Type 0
 Rise [] = Unit {0}
 Rise (x ∷ xs) = AllByRecursion (λ y. x ≤ y) xs × Rise xs
 
 -- what is found is one of them
-found_one : (P : ℕ → Type 0) (p : ℕ → Bool) (xs : List ℕ) (x : ℕ) → AllByRecursion P xs → find p xs ≡ Some x → P x
+pub found_one : (P : ℕ → Type 0) (p : ℕ → Bool) (xs : List ℕ) (x : ℕ) → AllByRecursion P xs → find p xs ≡ Some x → P x
 found_one P p [] x all is = absurd (let never : ⊥ = cc in never)
 found_one P p (y ∷ ys) x all is = elim (cases_Bool (p y)) [
   | inl here ↦ let first = rw here at is in let same : y ≡ x = cc in subst P same all.0
@@ -60,7 +60,7 @@ found_one P p (y ∷ ys) x all is = elim (cases_Bool (p y)) [
 ]
 
 -- the first of rising numbers that passes, where the test is the same up to it
-find_same : (p q : ℕ → Bool) (xs : List ℕ) (x : ℕ) → Rise xs → ((y : ℕ) → y ≤ x → q y ≡ p y) → find p xs ≡ Some x → find q xs ≡ Some x
+pub find_same : (p q : ℕ → Bool) (xs : List ℕ) (x : ℕ) → Rise xs → ((y : ℕ) → y ≤ x → q y ≡ p y) → find p xs ≡ Some x → find q xs ≡ Some x
 find_same p q [] x rise same is = is
 find_same p q (y ∷ ys) x rise same is = elim (cases_Bool (p y)) [
   | inl here ↦ let first = rw here at is in let e : y ≡ x = cc in rw (same y (omega arith), here) first
@@ -69,7 +69,7 @@ find_same p q (y ∷ ys) x rise same is = elim (cases_Bool (p y)) [
       rw (same y (found_one (λ z. y ≤ z) p ys x rise.0 rest), other) (find_same p q ys x rise.1 same rest)
 ]
 
-sizes_rise : Rise block_sizes
+pub sizes_rise : Rise block_sizes
 sizes_rise = ((omega arith, (omega arith, (omega arith, tt))), ((omega arith, (omega arith, tt)), ((omega arith, tt), (tt, tt))))
 
 pub superblock_same : (I X : Image) (bits : ℕ) → superblock_bits I ≡ Some bits → length X ≡ length I → ((b : ℕ) → b ≤ 2 → block_at (2 ^ bits) X b ≡ block_at (2 ^ bits) I b)

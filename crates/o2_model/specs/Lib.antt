@@ -35,6 +35,7 @@ pub mod LogGrammar
 pub mod Dirty
 pub mod Anchors
 pub mod Replay
+pub mod FourImages
 pub mod AfterReplay
 pub mod Owned
 pub mod Frames

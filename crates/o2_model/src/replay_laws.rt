@@ -1,12 +1,15 @@
 // Laws of consistent images and of replays, each the contract of a function that does nothing.
-ghost use Rattle.std.specs.Prelude.{◌≡◌, Some, [], ℕ, length};
+ghost use Rattle.std.specs.Prelude.{◌≡◌, Some, [], ◌∷◌, ℕ, length, map, nat_eq};
+ghost use Rattle.std.specs.List.{IsDistinct};
 ghost use Rattle.o2_disk.specs.Image.{Image};
 ghost use Rattle.o2_model.specs.declared.check.Check.{Check};
 ghost use Rattle.o2_model.specs.Volume.{Volume, opened};
 ghost use Rattle.o2_model.specs.Failing.{faults, failing, Holds};
 ghost use Rattle.o2_model.specs.Consistent.{IsConsistent};
-ghost use Rattle.o2_model.specs.Dirty.{dirty_slots, all_committed_writes};
+ghost use Rattle.o2_model.specs.Logs.{Transaction};
+ghost use Rattle.o2_model.specs.Dirty.{dirty_slots, log_of, committed_writes, all_committed_writes};
 ghost use Rattle.o2_model.specs.Replay.{replayed, IsPartialReplay, IsRecoverable, IsRepairable, IsReplayable, IsReplayStable};
+ghost use Rattle.o2_model.specs.FourImages.{HasOneLog, AreFourReplayable};
 
 /// A law: where no pair fails, each check holds at each block.
 pub fn each_check_holds()
@@ -41,4 +44,12 @@ pub fn replay_keeps_length()
 pub fn consistent_images_are_recoverable()
     ensures recoverable { (I : Image) → IsConsistent I → IsRecoverable I }
     ensures repairable { (I : Image) → IsRecoverable I → IsRepairable I }
+{}
+
+/// A law: where one slot is dirty and its log writes each block once, four images tell that a replay may be stopped and started
+/// again. A log of one transaction does so where the transaction names no block twice.
+pub fn four_images_tell_stability()
+    ensures stable { (I : Image) (v : Volume) (slot journal : ℕ) → HasOneLog I v slot journal → AreFourReplayable I v → IsReplayStable I }
+    ensures one_transaction { (v : Volume) (slot : ℕ) (t : Transaction) → log_of v slot ≡ t ∷ [] → IsDistinct nat_eq (map (λ w. w.block) t.writes)
+        → IsDistinct nat_eq (map (λ w. w.block) (committed_writes v slot)) }
 {}

@@ -48,7 +48,7 @@ keeps_extent v at none agrees =
     each_inode_keeps v at extent_faults none agrees (λ b is. faults_of_own_list (over v at) b ∙ (ap (λ t. t.faults) (owned_tell_extents v at b none agrees is) ∙ sym (faults_of_own_list v b)))
 
 -- ---- sizes
-size_of_kind_same : (v : Volume) (at : ℕ → List ℕ) (b : ℕ) → at b ≡ v.at b → extents (over v at) b ≡ extents v b → own_inodes (over v at) ≡ own_inodes v
+pub size_of_kind_same : (v : Volume) (at : ℕ → List ℕ) (b : ℕ) → at b ≡ v.at b → extents (over v at) b ≡ extents v b → own_inodes (over v at) ≡ own_inodes v
     → (o : Option Kind) → (is_directory_kind o ≡ true → dir_blocks (over v at) b ≡ dir_blocks v b) → is_size_of_kind (over v at) b o ≡ is_size_of_kind v b o
 size_of_kind_same v at b inode list own None blocks = refl
 size_of_kind_same v at b inode list own (Some Directory) blocks = rw (inode, blocks refl) refl
