@@ -93,3 +93,12 @@ pub fn wrong_windows()
     ensures large_without_window { failing (volume_with (with_number_at 26 0xb8 8 0 (with_number_at 26 0xc4 2 305 whole_block))) ≡ (check.LocalAlloc, 26) ∷ (check.ClusterAllocBit, 8) ∷ [] }
     ensures behind_window { failing (with_number 26 0xd0 1 5) ≡ [] }
 {}
+
+/// A law: a chain that leads to a group of another allocator has none. The blocks of the groups that it had are then on no bits, and of
+/// their slots and bits nothing is asked.
+pub fn lost_groups()
+    ensures of_extent_blocks { failing (with_number 23 0xd8 8 16)
+        ≡ (check.ChainLink, 23) ∷ (check.MetaBlock, 41) ∷ (check.MetaBlock, 42) ∷ (check.Dx, 28) ∷ (check.InodeClusters, 23) ∷ (check.ClusterAllocBit, 8) ∷ (check.ChainBits, 23) ∷ [] }
+    ensures next { failing (with_number 16 0x18 8 48) ≡ (check.ChainLink, 16) ∷ [] }
+    ensures next_of_blocks { failing (with_number 40 0x18 8 16) ≡ (check.ChainLink, 40) ∷ [] }
+{}

@@ -111,7 +111,8 @@ pub fn wrong_index_entries()
     ensures second_half { failing (with_number 43 0xec 4 1) ≡ (check.Dx, 28) ∷ (check.BlockAllocBit, 40) ∷ [] }
     ensures another_block { failing (changed two_directory_blocks 43 0x100 8 72) ≡ (check.Dx, 28) ∷ (check.BlockAllocBit, 40) ∷ [] }
     ensures exchanged { failing (volume_with (with_number_at 43 0xf0 8 73 (with_number_at 43 0x100 8 72 two_directory_blocks))) ≡ (check.Dx, 28) ∷ (check.BlockAllocBit, 40) ∷ [] }
-    ensures live_trailer { failing (with_number 72 455 1 1) ≡ (check.DirentName, 72) ∷ (check.DirentInode, 72) ∷ (check.Dx, 28) ∷ (check.BlockAllocBit, 40) ∷ [] }
+    ensures live_trailer { failing (volume_with (with_number_at 72 448 8 34 (with_number_at 43 0x38 4 4 (with_number_at 43 0xc6 2 4 (with_number_at 43 0xf8 8 0x2_0000_0001 (with_number_at 43 0x100 8 72 whole_block))))))
+        ≡ (check.DirentName, 72) ∷ (check.DirentInode, 72) ∷ (check.Dx, 28) ∷ (check.BlockAllocBit, 40) ∷ [] }
     ensures short_trailer { failing (volume_with (with_number_at 72 456 2 52 (with_number_at 72 508 2 12 whole_block))) ≡ (check.Dx, 28) ∷ (check.BlockAllocBit, 40) ∷ [] }
 {}
 

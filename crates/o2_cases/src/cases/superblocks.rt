@@ -5,6 +5,8 @@ ghost use Rattle.o2_ondisk.specs.Super.{super_of};
 ghost use Rattle.o2_model.specs.declared.oddity.Oddity.TheVariants.{Clusters, HeartbeatDevice, InProgress, LocalMount, Metaecc, Quota, UnknownFeatures};
 ghost use Rattle.o2_model.specs.declared.claim.Owner.TheVariants.{Backup, GlobalGroup, Super};
 ghost use Rattle.o2_model.specs.Claims.{claims_by, structure_claims};
+ghost use Rattle.o2_model.specs.Superblock.{superblock_bits};
+ghost use Rattle.o2_cases.specs.SmallBytes.{zero_bytes};
 ghost use Rattle.o2_model.specs.Volume.{over};
 ghost use Rattle.o2_model.specs.Features.{unsupported_in};
 ghost use Rattle.o2_model.specs.Clusters.{are_clusters_in_range};
@@ -12,7 +14,7 @@ ghost use Rattle.o2_model.specs.ClusterGroups.{backup_clusters, group_count, gro
 ghost use Rattle.o2_model.specs.Checks.Super.{has_sound_directories, has_sound_first_group, has_sound_sizes};
 ghost use Rattle.o2_model.specs.Checks.BackupSuper.{backup_super_faults};
 ghost use Rattle.o2_cases.specs.BackupVolume.{with_backup};
-ghost use Rattle.o2_cases.specs.WholeVolume.{whole_super};
+ghost use Rattle.o2_cases.specs.WholeVolume.{filled, whole_super};
 ghost use Rattle.o2_cases.specs.SmallVolumes.{large, large_geo, small, small_geo, volume_with};
 
 /// A law: clusters have 4 KiB to 1 MiB, and there is a slot.
@@ -138,4 +140,16 @@ pub fn bits_of_features()
     ensures quota_first { unsupported_in (super_of (drop 0xc0 (put_at 0xe0 8 0x2_0000_002e whole_super))) 16 ≡ Some Quota }
     ensures heartbeat_first { unsupported_in (super_of (drop 0xc0 (put_at 0xe0 4 0x2e whole_super))) 16 ≡ Some HeartbeatDevice }
     ensures local_first { unsupported_in (super_of (drop 0xc0 (put_at 0xe0 4 0x1_002c whole_super))) 0x4000_0001 ≡ Some LocalMount }
+{}
+
+/// A law: a superblock is found where block 2 lies within the device, has the signature, and tells the size that its place is for. Of two
+/// sizes the least counts.
+pub fn superblocks_of_images()
+    ensures small { superblock_bits (zero_bytes 512 ∷ zero_bytes 512 ∷ filled whole_super ∷ []) ≡ Some 9 }
+    ensures large { superblock_bits (zero_bytes 512 ∷ zero_bytes 512 ∷ zero_bytes 512 ∷ zero_bytes 512 ∷ put_at 0xf8 4 10 (filled whole_super) ∷ zero_bytes 512 ∷ []) ≡ Some 10 }
+    ensures crossing { superblock_bits (zero_bytes 512 ∷ zero_bytes 512 ∷ zero_bytes 512 ∷ zero_bytes 512 ∷ put_at 0xf8 4 10 (filled whole_super) ∷ []) ≡ None }
+    ensures both { superblock_bits (zero_bytes 512 ∷ zero_bytes 512 ∷ filled whole_super ∷ zero_bytes 512 ∷ put_at 0xf8 4 10 (filled whole_super) ∷ zero_bytes 512 ∷ []) ≡ Some 9 }
+    ensures another_size { superblock_bits (zero_bytes 512 ∷ zero_bytes 512 ∷ put_at 0xf8 4 10 (filled whole_super) ∷ []) ≡ None }
+    ensures no_signature { superblock_bits (zero_bytes 512 ∷ zero_bytes 512 ∷ put_at 0x0 1 0 (filled whole_super) ∷ []) ≡ None }
+    ensures nothing { superblock_bits [] ≡ None }
 {}

@@ -214,3 +214,14 @@ pub fn places_of_entries()
     ensures index_leaf { is_owned (volume_with leaf_index_blocks) 127 ≡ true }
     ensures unsound_index { is_owned (changed leaf_index_blocks 43 0x38 4 9) 127 ≡ false }
 {}
+
+/// A law: clusters that are marked as unwritten are read as zeros. The text of a link is as long as i_size, and stands behind the header of
+/// inline data where the link is inline.
+pub fn contents_on_cases()
+    ensures not_written { content_of (with_number 30 0xd7 1 3) 30 ≡ Bytes (0 ∷ 0 ∷ 0 ∷ 0 ∷ 0 ∷ []) }
+    ensures no_clusters { content_of (with_number 30 0xc4 2 0) 30 ≡ Bytes (0 ∷ 0 ∷ 0 ∷ 0 ∷ 0 ∷ []) }
+    ensures behind_text { content_of (with_number 33 0x20 8 3) 33 ≡ Bytes (0x66 ∷ 0 ∷ 0 ∷ []) }
+    ensures inline_link { content_of (volume_with (with_number_at 33 0x76 2 1 (with_number_at 33 0xc8 1 0x61 whole_block))) 33 ≡ Bytes (codes "a") }
+    ensures sound_inline_link { failing (with_number 33 0x76 2 1) ≡ [] }
+    ensures long_link { content_of (volume_with (with_number_at 33 0x14 4 1 (with_number_at 33 0xc0 8 0x1_0013_0000 (with_number_at 33 0xd0 8 0x1_0000_0000 (with_number_at 33 0xd8 8 88 whole_block))))) 33 ≡ Bytes (codes "h") }
+{}

@@ -4,7 +4,7 @@ ghost use Rattle.o2_ondisk.specs.declared.superblock.DxSeed.{DxSeed};
 ghost use Rattle.o2_model.specs.Orders.{later_like, rising};
 ghost use Rattle.o2_model.specs.Groups.{is_bit_set_in};
 ghost use Rattle.o2_model.specs.Logs.{LoggedBlock, Transaction, unrevoked};
-ghost use Rattle.o2_model.specs.NameHash.{NameHash, name_hash};
+ghost use Rattle.o2_model.specs.NameHash.{NameHash, is_ascii_name, name_hash};
 ghost use Rattle.o2_model.specs.SystemFiles.{system_name};
 ghost use Rattle.o2_model.specs.declared.system_file.SlotFile.TheVariants.{Journal};
 ghost use Rattle.o2_model.specs.declared.system_file.SystemFile.TheVariants.{OfSlot};
@@ -53,4 +53,10 @@ pub fn lengths_of_names()
     ensures longer { is_sound_name (replicate 256 0x61) ≡ false }
     ensures nul { is_sound_name (0x61 ∷ 0 ∷ []) ≡ false }
     ensures dot { is_sound_name (codes ".") ≡ true }
+{}
+
+/// A law: bytes from 128 on are not ASCII.
+pub fn ascii_names_on_cases()
+    ensures ascii { is_ascii_name (0x61 ∷ 0x7f ∷ []) ≡ true }
+    ensures not_ascii { is_ascii_name (0x61 ∷ 0x80 ∷ []) ≡ false }
 {}
