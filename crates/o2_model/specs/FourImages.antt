@@ -1,4 +1,4 @@
--- Four images that tell whether a replay may be stopped and started again, where one slot is dirty.
+-- Four images: where one slot is dirty and they can be replayed, a replay may be stopped and started again.
 use Rattle.std.specs.Prelude.{◌≡◌, ◌≢◌, ◌⊎◌, ℕ, ◌<◌, nat_eq, false, List, [], ◌∷◌, map, length, Some, if◌then◌else◌}
 use Rattle.std.specs.List.{IsDistinct}
 use Rattle.o2_disk.specs.Image.{Image, sector, image_of}

@@ -53,7 +53,8 @@ pub use owned_laws::{
 };
 pub use replay_laws::{
     clean_image_has_no_variant, consistent_image_stays, consistent_images_are_recoverable,
-    each_check_holds, replay_keeps_length, stable_image_can_be_replayed,
+    each_check_holds, four_images_tell_stability, replay_keeps_length,
+    stable_image_can_be_replayed,
 };
 pub use system_file::{SlotFile, SystemFile};
 pub use walk_laws::{

@@ -46,8 +46,8 @@ pub fn consistent_images_are_recoverable()
     ensures repairable { (I : Image) → IsRecoverable I → IsRepairable I }
 {}
 
-/// A law: where one slot is dirty and its log writes each block once, four images tell that a replay may be stopped and started
-/// again. A log of one transaction does so where the transaction names no block twice.
+/// A law: where one slot is dirty, its log writes each block once and four images can be replayed, a replay may be stopped and started
+/// again. A log of one transaction writes each block once where the transaction names no block twice.
 pub fn four_images_tell_stability()
     ensures stable { (I : Image) (v : Volume) (slot journal : ℕ) → HasOneLog I v slot journal → AreFourReplayable I v → IsReplayStable I }
     ensures one_transaction { (v : Volume) (slot : ℕ) (t : Transaction) → log_of v slot ≡ t ∷ [] → IsDistinct nat_eq (map (λ w. w.block) t.writes)
