@@ -6,7 +6,7 @@ use Rattle.o2_ondisk.specs.Super.{super_of}
 use Rattle.o2_disk.specs.Image.{sector, bytes_from, block_at}
 use Rattle.o2_disk.proofs.Images.{length-image_of, sector-image_of, sector_past, bytes_from-sector, bytes_from-same}
 use Rattle.o2_model.specs.Features.{unsupported_in, unsupported_feature}
-use Rattle.o2_model.specs.Geometry.{geometry_of}
+use Rattle.o2_model.specs.Geometry.{geometry_in_block}
 use Rattle.o2_model.specs.Superblock.{super_signature, has_super, superblock_bits}
 use Rattle.o2_model.specs.Volume.{volume_of, opened}
 use Rattle.o2_cases.specs.WholeVolume.{on_device, whole_geo, volume_with}
@@ -55,7 +55,7 @@ bits_found blocks is = rw (has_super_there blocks is) refl
 same_volume : (blocks : ℕ → List ℕ) → IsVolume blocks → volume_of (image_with blocks) 9 ≡ volume_with blocks
 same_volume blocks is =
     let at = block_at-image_with blocks is in
-    let geometry : geometry_of (block_at 512 (image_with blocks) 2) ≡ whole_geo = ap geometry_of (at 2) ∙ is.geometry in
+    let geometry : geometry_in_block (block_at 512 (image_with blocks) 2) ≡ whole_geo = ap geometry_in_block (at 2) ∙ is.geometry in
     let size : 512 * length (image_with blocks) / 512 ≡ 128 = ap (λ n. 512 * n / 512) (length-image_with blocks) in
     λ i. record { geo = geometry i; at = λ b. at b i; on_device = size i }
 

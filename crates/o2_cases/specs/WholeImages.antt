@@ -6,7 +6,7 @@ use Rattle.o2_ondisk.specs.Super.{super_of}
 use Rattle.o2_disk.specs.Image.{Image, image_of}
 use Rattle.o2_model.specs.Superblock.{super_signature}
 use Rattle.o2_model.specs.Features.{unsupported_in}
-use Rattle.o2_model.specs.Geometry.{geometry_of}
+use Rattle.o2_model.specs.Geometry.{geometry_in_block}
 use Rattle.o2_model.specs.Anchors.{anchors_of, log_fault}
 use Rattle.o2_model.specs.Dirty.{committed_writes, dirty_slots, journal_fault, slot_journal}
 use Rattle.o2_model.specs.Replay.{as_clean, dirty_journals}
@@ -62,7 +62,7 @@ pub record IsVolume (blocks : ℕ → List ℕ) : Type 0 where
   pub full : are_full blocks ≡ true
   pub signature : number_at 0x0 8 (on_device blocks 2) ≡ super_signature
   pub bits : (super_of (drop 0xc0 (on_device blocks 2))).blocksize_bits ≡ 9
-  pub geometry : geometry_of (on_device blocks 2) ≡ whole_geo
+  pub geometry : geometry_in_block (on_device blocks 2) ≡ whole_geo
   pub supported : unsupported_in (super_of (drop 0xc0 (on_device blocks 2))) (number_at 0x14 4 (on_device blocks 2)) ≡ None
 
 -- Slot 0 alone is dirty, and its log has one write, which these other blocks have.

@@ -1,7 +1,7 @@
 // A consistent image, and one that a replay makes consistent, also where it is stopped and started again.
 ghost use Rattle.std.specs.Prelude.{◌≡◌, ◌⊎◌, [], ◌∷◌, Some};
 ghost use Rattle.o2_disk.specs.Image.{Image};
-ghost use Rattle.o2_model.specs.AfterReplay.{contents_after_replay, geometry_after_replay, volume_contents, volume_geometry};
+ghost use Rattle.o2_model.specs.AfterReplay.{contents_after_replay, geometry_after_replay, volume_contents, geometry_of};
 ghost use Rattle.o2_model.specs.Consistent.{IsConsistent, failing_checks};
 ghost use Rattle.o2_model.specs.Replay.{IsPartialReplay, IsRecoverable, IsRepairable, IsReplayStable, replayed};
 ghost use Rattle.o2_model.specs.Volume.{opened};
@@ -28,7 +28,7 @@ pub fn dirty_image_is_replayed()
     ensures replayed { replayed dirty_image ≡ replayed_image }
     ensures consistent { IsConsistent (replayed dirty_image) }
     ensures contents { contents_after_replay dirty_image ≡ Some (volume_contents (volume_with clean_blocks)) }
-    ensures geometry { geometry_after_replay dirty_image ≡ Some (volume_geometry (volume_with clean_blocks)) }
+    ensures geometry { geometry_after_replay dirty_image ≡ Some (geometry_of (volume_with clean_blocks)) }
 {
     blocks_are_volumes();
     failures_of_blocks();

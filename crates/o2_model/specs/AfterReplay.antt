@@ -51,8 +51,8 @@ super_of_volume v = super_of (drop 0xc0 (v.at 2))
 abbrev pub journal_length : Volume → ℕ → ℕ
 journal_length v slot = option_map_or (λ b. sum_by leaf_clusters (leaf_records v b)) (named_journal v slot) 0
 
-abbrev pub volume_geometry : Volume → VolumeGeometry
-volume_geometry v = record {
+abbrev pub geometry_of : Volume → VolumeGeometry
+geometry_of v = record {
   block_bits = v.geo.block_bits;
   cluster_bits = v.geo.cluster_bits;
   clusters = v.geo.clusters;
@@ -64,4 +64,4 @@ volume_geometry v = record {
 
 -- that of the replayed image, where there is a volume
 abbrev pub geometry_after_replay : Image → Option VolumeGeometry
-geometry_after_replay I = option_map volume_geometry (opened (replayed I))
+geometry_after_replay I = option_map geometry_of (opened (replayed I))

@@ -9,7 +9,8 @@ use Rattle.o2_model.specs.Volume.{Volume, dinode}
 use Rattle.o2_model.specs.Inodes.{kind, records_of}
 use Rattle.o2_model.specs.LeafRecords.{clusters_under, is_refcounted}
 use Rattle.o2_model.specs.Contents.{Content, content_of}
-use Rattle.o2_model.specs.Tree.{tree_walk, met_inodes}
+use Rattle.o2_model.specs.Orders.{rising}
+use Rattle.o2_model.specs.Tree.{tree_inodes}
 
 -- ---- inodes
 -- An extended attribute of an inode.
@@ -69,9 +70,9 @@ file_of v b = record {
   attributes = attributes_of v b;
 }
 
--- the inodes of the tree, by their numbers
+-- the inodes at the paths of the tree, by their numbers
 abbrev pub files_of : Volume → finite.FinMap nat_cmp File
-files_of v = finite.from_entries (map (λ n. (n.1, file_of v n.1)) (tree_walk v).names)
+files_of v = finite.from_entries (map (λ b. (b, file_of v b)) (tree_inodes v))
 
 -- ---- sharing
 -- each reference of an inode to a cluster by a refcounted record: the cluster, once for each list and place
@@ -82,8 +83,12 @@ shared_references v b = flat_map (clusters_under v) (filter is_refcounted (recor
 abbrev pub times_in : List ℕ → ℕ → ℕ
 times_in clusters c = count_by (λ d. d == c) clusters
 
--- how many references the inodes of the tree have to each cluster under a refcounted record; orphans do not count
+-- those of all inodes of the tree; orphans do not count
+abbrev pub tree_sharing : Volume → List ℕ
+tree_sharing v = flat_map (shared_references v) (rising (tree_inodes v))
+
+-- how many references the inodes of the tree have to each cluster under a refcounted record
 abbrev pub shared_clusters : Volume → finite.FinMap nat_cmp ℕ
 shared_clusters v =
-    let references = flat_map (shared_references v) (met_inodes v) in
+    let references = tree_sharing v in
     finite.from_entries (map (λ c. (c, times_in references c)) references)

@@ -25,12 +25,12 @@ geometry_in part clusters generation = record {
 }
 
 -- those that the bytes of block 2 tell
-abbrev pub geometry_of : List ℕ → Geo
-geometry_of bytes = geometry_in (super_of (drop 0xc0 bytes)) (dinode_of bytes).clusters (dinode_of bytes).fs_generation
+abbrev pub geometry_in_block : List ℕ → Geo
+geometry_in_block bytes = geometry_in (super_of (drop 0xc0 bytes)) (dinode_of bytes).clusters (dinode_of bytes).fs_generation
 
 -- those of the image where a block has 2 ^ bits bytes
 abbrev pub geometry_at : Image → ℕ → Geo
-geometry_at I bits = geometry_of (block_at (2 ^ bits) I 2)
+geometry_at I bits = geometry_in_block (block_at (2 ^ bits) I 2)
 
 -- those of the superblock that is found in the image, where there is one
 abbrev pub superblock_geometry : Image → Option Geo

@@ -103,3 +103,7 @@ tree_of v = finite.from_entries (tree_walk v).names
 -- The inode at a path: that of the first name that the walk met there.
 abbrev pub inode_at : Volume → List (List ℕ) → Option ℕ
 inode_at v path = finite.find path_cmp path (tree_walk v).names
+
+-- the inodes that the tree has at its paths: for each path that the walk met, the one there
+unfoldable pub tree_inodes : Volume → List ℕ
+tree_inodes v = flat_map (λ n. option_map_or (λ b. b ∷ []) (inode_at v n.0) []) (tree_walk v).names

@@ -3,7 +3,7 @@ ghost use Rattle.std.specs.Prelude.{◌≡◌, ℕ, List, [], length, Some};
 ghost use Rattle.o2_disk.specs.Image.{Image, block_at};
 ghost use Rattle.o2_model.specs.declared.check.Check.{Check};
 ghost use Rattle.o2_model.specs.Volume.{Volume, over, block_size, opened};
-ghost use Rattle.o2_model.specs.AfterReplay.{contents_after_replay, geometry_after_replay, volume_contents, volume_geometry};
+ghost use Rattle.o2_model.specs.AfterReplay.{contents_after_replay, geometry_after_replay, volume_contents, geometry_of};
 ghost use Rattle.o2_model.specs.Agrees.{AgreesOnOwned};
 ghost use Rattle.o2_model.specs.Claims.{claims_of};
 ghost use Rattle.o2_model.specs.Consistent.{IsConsistent};
@@ -33,7 +33,7 @@ pub fn owned_blocks_tell_claims()
 pub fn owned_blocks_tell_contents()
     ensures sharing { (v : Volume) (at : ℕ → List ℕ) → failing v ≡ [] → AgreesOnOwned v at → shared_clusters (over v at) ≡ shared_clusters v }
     ensures contents { (v : Volume) (at : ℕ → List ℕ) → failing v ≡ [] → AgreesOnOwned v at → volume_contents (over v at) ≡ volume_contents v }
-    ensures geometry { (v : Volume) (at : ℕ → List ℕ) → failing v ≡ [] → AgreesOnOwned v at → volume_geometry (over v at) ≡ volume_geometry v }
+    ensures geometry { (v : Volume) (at : ℕ → List ℕ) → failing v ≡ [] → AgreesOnOwned v at → geometry_of (over v at) ≡ geometry_of v }
 {}
 
 /// A law: an image of the same length that agrees with a consistent one on its owned blocks has the same volume over its own blocks. It

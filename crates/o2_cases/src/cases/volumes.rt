@@ -13,7 +13,7 @@ ghost use Rattle.o2_model.specs.Directories.{directory_entries};
 ghost use Rattle.o2_model.specs.Contents.Content.{Bytes, Entries, Nothing};
 ghost use Rattle.o2_model.specs.Tree.{inode_at, is_met, link_count, met_inodes, tree_directories, tree_walk};
 ghost use Rattle.o2_model.specs.Intact.{intact_paths, is_intact};
-ghost use Rattle.o2_model.specs.AfterReplay.{volume_geometry};
+ghost use Rattle.o2_model.specs.AfterReplay.{geometry_of};
 ghost use Rattle.o2_model.specs.Files.{file_of, links_of, shared_references};
 ghost use Rattle.o2_model.specs.Volume.{dinode};
 ghost use Rattle.o2_model.specs.RefcountTrees.{inodes_of_tree, refcount_roots, refcount_tree_blocks};
@@ -155,10 +155,10 @@ pub fn intact_paths_on_cases()
 
 /// A law: the numbers that a user may change are read of the superblock and of the journals.
 pub fn geometry_of_whole()
-    ensures slots { (volume_geometry whole).slots ≡ 1 }
-    ensures clusters { (volume_geometry whole).clusters ≡ 16 }
-    ensures journals { (volume_geometry whole).journals ≡ 1 ∷ [] }
-    ensures label { take 2 (volume_geometry (with_number 2 0x110 2 0x6176)).label ≡ codes "va" }
+    ensures slots { (geometry_of whole).slots ≡ 1 }
+    ensures clusters { (geometry_of whole).clusters ≡ 16 }
+    ensures journals { (geometry_of whole).journals ≡ 1 ∷ [] }
+    ensures label { take 2 (geometry_of (with_number 2 0x110 2 0x6176)).label ≡ codes "va" }
 {}
 
 /// A law: of what is outside the profile a group comes before an inode with attributes, and that before an orphan of a direct write; of
@@ -197,10 +197,10 @@ pub fn fields_of_files()
 
 /// A law: the volume's identifier and label are read of the superblock.
 pub fn identifier_of_whole()
-    ensures identifier { take 2 (volume_geometry (with_number 2 0x150 2 0x6176)).uuid ≡ codes "va" }
-    ensures label_length { length (volume_geometry whole).label ≡ 64 }
-    ensures identifier_length { length (volume_geometry whole).uuid ≡ 16 }
-    ensures no_second_journal { (volume_geometry (record whole { geo = record whole_geo { slots = 2 } })).journals ≡ 1 ∷ 0 ∷ [] }
+    ensures identifier { take 2 (geometry_of (with_number 2 0x150 2 0x6176)).uuid ≡ codes "va" }
+    ensures label_length { length (geometry_of whole).label ≡ 64 }
+    ensures identifier_length { length (geometry_of whole).uuid ≡ 16 }
+    ensures no_second_journal { (geometry_of (record whole { geo = record whole_geo { slots = 2 } })).journals ≡ 1 ∷ 0 ∷ [] }
 {}
 
 /// A law: an entry tells its block and its place there, or among the inline bytes. Of two entries with one name the first counts.

@@ -9,7 +9,7 @@ use Rattle.o2_model.specs.Superblock.{superblock_bits}
 use Rattle.o2_model.specs.Features.{unsupported_in, unsupported_feature}
 use Rattle.o2_model.specs.Volume.{Volume, over, block_size, volume_of, opened}
 use Rattle.o2_model.specs.Tree.{TreeWalk, path_cmp, tree_of}
-use Rattle.o2_model.specs.AfterReplay.{volume_contents, contents_after_replay, volume_geometry, geometry_after_replay}
+use Rattle.o2_model.specs.AfterReplay.{volume_contents, contents_after_replay, geometry_of, geometry_after_replay}
 use Rattle.o2_model.specs.Replay.{replayed}
 use Rattle.o2_model.specs.Failing.{failing}
 use Rattle.o2_model.specs.Consistent.{IsConsistent}
@@ -119,4 +119,4 @@ pub contents_alike : (I X : Image) (h : IsConsistent I) → length X ≡ length 
 contents_alike I X h size agrees = found_alike volume_contents I X h size agrees (owned_tell_contents h.volume (block_at (block_size h.volume) X) h.none_fails agrees)
 
 pub geometry_alike : (I X : Image) (h : IsConsistent I) → length X ≡ length I → Agrees I X h → geometry_after_replay X ≡ geometry_after_replay I
-geometry_alike I X h size agrees = found_alike volume_geometry I X h size agrees (owned_tell_geometry h.volume (block_at (block_size h.volume) X) h.none_fails agrees)
+geometry_alike I X h size agrees = found_alike geometry_of I X h size agrees (owned_tell_geometry h.volume (block_at (block_size h.volume) X) h.none_fails agrees)

@@ -20,7 +20,7 @@ use Rattle.o2_model.specs.ClusterGroups.{backup_clusters}
 use Rattle.o2_model.specs.SystemFiles.{slots}
 use Rattle.o2_model.specs.Groups.{groups, inodes_of}
 use Rattle.o2_model.specs.Structures.{is_discontiguous, discontiguous_groups, inodes_with_attributes, direct_write_orphans, each_for, unsupported_structure}
-use Rattle.o2_model.specs.AfterReplay.{VolumeGeometry, journal_length, volume_geometry}
+use Rattle.o2_model.specs.AfterReplay.{VolumeGeometry, journal_length, geometry_of}
 use Rattle.o2_model.specs.Checks.Super.{is_sound_super}
 use Rattle.o2_model.specs.Checks.BackupSuper.{is_backup, backup_blocks}
 use Rattle.o2_model.specs.Failing.{faults, failing}
@@ -43,7 +43,7 @@ pub keeps_super : (v : Volume) (at : ℕ → List ℕ) → failing v ≡ [] → 
 unfolding faults is_sound_super
 keeps_super v at none agrees = rw (super_block_same v at none agrees) refl
 
-pub owned_tell_geometry : (v : Volume) (at : ℕ → List ℕ) → failing v ≡ [] → AgreesOnOwned v at → volume_geometry (over v at) ≡ volume_geometry v
+pub owned_tell_geometry : (v : Volume) (at : ℕ → List ℕ) → failing v ≡ [] → AgreesOnOwned v at → geometry_of (over v at) ≡ geometry_of v
 owned_tell_geometry v at none agrees =
     let told : List ℕ → List ℕ → VolumeGeometry = λ bytes lengths. record {
       block_bits = v.geo.block_bits;

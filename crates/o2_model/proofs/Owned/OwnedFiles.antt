@@ -1,5 +1,7 @@
 -- Where nothing fails, blocks that agree on the owned ones have the same files at the paths of the tree.
-use Rattle.std.proofs.Common.{◌≡◌, inl, inr, ℕ, true, false, not, List, [], ◌∷◌, map, refl, ◌∙◌, ap}
+use Rattle.std.proofs.Common.{◌≡◌, inl, inr, ℕ, true, false, not, List, [], ◌∷◌, map, ◌∙◌, ap, subst}
+use Rattle.std.specs.Prelude.{flat_map}
+use Rattle.std.specs.Option.{option_map_or}
 use Rattle.std.specs.FinMap as finite
 use Rattle.std.specs.List.{AllByRecursion, Contains}
 use Rattle.std.specs.Ordering.{nat_cmp}
@@ -13,10 +15,13 @@ use Rattle.o2_model.specs.Files.{File, file_of, files_of}
 use Rattle.o2_model.specs.Groups.{is_inode}
 use Rattle.o2_model.specs.Journals.{journals}
 use Rattle.o2_model.specs.Frames.{entered_inodes as inodes_entered}
-use Rattle.o2_model.specs.Tree.{TreeWalk, names_users, tree_walk, met_inodes}
+use Rattle.o2_model.specs.Tree.{TreeWalk, names_users, path_cmp, tree_walk, met_inodes, tree_inodes}
 use Rattle.o2_model.specs.Failing.{failing}
 use Rattle.o2_model.specs.Agrees.{AgreesOnOwned}
+use Rattle.o2_model.proofs.Agreeing.{map_agree}
+use Rattle.o2_model.proofs.FirstNames.{found_name, one_at_only}
 use Rattle.o2_model.proofs.Found.{all_map, all_push, each_of}
+use Rattle.o2_model.proofs.Members.{flat_contains}
 use Rattle.o2_model.proofs.Rising.{all_rising}
 use Rattle.o2_model.proofs.TreeWalks.{Keeps, users_inode, walk_keeps}
 use Rattle.o2_model.proofs.Owned.SystemOwned.{root_is_inode, root_is_directory, directory_apart, users_apart}
@@ -66,17 +71,24 @@ met_readable v b none is =
     let names = (tree_walk v).names in
     each_of (IsReadable v) (rising (map (λ n. n.1) names)) b (all_rising (IsReadable v) (map (λ n. n.1) names) (all_map (IsReadable v) (λ n. n.1) names (tree_named v none))) is
 
+-- ---- the inodes at the paths of the tree
+pub owned_tell_tree_inodes : (v : Volume) (at : ℕ → List ℕ) → failing v ≡ [] → AgreesOnOwned v at → tree_inodes (over v at) ≡ tree_inodes v
+unfolding tree_inodes
+owned_tell_tree_inodes v at none agrees =
+    ap (λ (w : TreeWalk). flat_map (λ n. option_map_or (λ b. b ∷ []) (finite.find path_cmp n.0 w.names) []) w.names) (owned_tell_tree v at none agrees)
+
+pub tree_readable : (v : Volume) (b : ℕ) → failing v ≡ [] → Contains (tree_inodes v) b → IsReadable v b
+unfolding tree_inodes
+tree_readable v b none is =
+    let names = (tree_walk v).names in
+    let part = flat_contains (λ n. option_map_or (λ c. c ∷ []) (finite.find path_cmp n.0 names) []) names b is in
+    let found = found_name names part.item.0 b (one_at_only (finite.find path_cmp part.item.0 names) b part.has) in
+    subst (IsReadable v) found.inode_is (each_of (λ n. IsReadable v n.1) names found.name (tree_named v none) found.inside)
+
 -- ---- files
--- the files of these names
-abbrev files_at : Volume → List (List (List ℕ) × ℕ) → List (ℕ × File)
-files_at v names = map {B = ℕ × File} (λ n. (n.1, file_of v n.1)) names
-
-each_file : (v : Volume) (at : ℕ → List ℕ) (names : List (List (List ℕ) × ℕ)) → failing v ≡ [] → AgreesOnOwned v at → AllReadable v names
-    → files_at (over v at) names ≡ files_at v names
-each_file v at [] none agrees all = refl
-each_file v at (n ∷ ns) none agrees all = rw (owned_tell_file v at n.1 none agrees all.0.inode all.0.apart, each_file v at ns none agrees all.1) refl
-
 pub owned_tell_files : (v : Volume) (at : ℕ → List ℕ) → failing v ≡ [] → AgreesOnOwned v at → files_of (over v at) ≡ files_of v
 owned_tell_files v at none agrees =
-    ap (λ (w : TreeWalk). finite.from_entries {R = nat_cmp} (files_at (over v at) w.names)) (owned_tell_tree v at none agrees)
-    ∙ ap (λ es. finite.from_entries {R = nat_cmp} es) (each_file v at (tree_walk v).names none agrees (tree_named v none))
+    ap (λ bs. finite.from_entries {R = nat_cmp} (map {B = ℕ × File} (λ b. (b, file_of (over v at) b)) bs)) (owned_tell_tree_inodes v at none agrees)
+    ∙ ap (λ es. finite.from_entries {R = nat_cmp} es)
+    (map_agree {B = ℕ × File} (λ b. (b, file_of (over v at) b)) (λ b. (b, file_of v b)) (tree_inodes v)
+    (λ b is. let readable = tree_readable v b none is in ap (λ (f : File). (b, f)) (owned_tell_file v at b none agrees readable.inode readable.apart)))

@@ -15,7 +15,7 @@ use Rattle.o2_ondisk.proofs.PasteLaws.{number_at-paste_at_apart, length-paste_at
 use Rattle.o2_disk.specs.Image.{Image, sector, block_at}
 use Rattle.o2_disk.proofs.Images.{block_at-same}
 use Rattle.o2_model.specs.Superblock.{super_signature, has_super, superblock_bits, block_sizes}
-use Rattle.o2_model.specs.Geometry.{geometry_of}
+use Rattle.o2_model.specs.Geometry.{geometry_in_block}
 use Rattle.o2_model.specs.Volume.{Volume}
 use Rattle.o2_model.specs.Logs.{LoggedBlock}
 use Rattle.o2_model.specs.Dirty.{dirty_slots}
@@ -31,10 +31,10 @@ pub record IsKeptPlace (from width : ℕ) : Type 0 where
 -- What the bytes of block 2 tell alike.
 pub record SuperKept (old new : List ℕ) : Type 0 where
   pub signature : number_at 0x0 8 new ≡ number_at 0x0 8 old
-  pub block_bits : (geometry_of new).block_bits ≡ (geometry_of old).block_bits
-  pub cluster_bits : (geometry_of new).cluster_bits ≡ (geometry_of old).cluster_bits
-  pub generation : (geometry_of new).generation ≡ (geometry_of old).generation
-  pub sysdir : (geometry_of new).sysdir ≡ (geometry_of old).sysdir
+  pub block_bits : (geometry_in_block new).block_bits ≡ (geometry_in_block old).block_bits
+  pub cluster_bits : (geometry_in_block new).cluster_bits ≡ (geometry_in_block old).cluster_bits
+  pub generation : (geometry_in_block new).generation ≡ (geometry_in_block old).generation
+  pub sysdir : (geometry_in_block new).sysdir ≡ (geometry_in_block old).sysdir
 
 pub kept_itself : (old new : List ℕ) → new ≡ old → SuperKept old new
 kept_itself old new same = record { signature = rw same refl; block_bits = rw same refl; cluster_bits = rw same refl; generation = rw same refl; sysdir = rw same refl }
@@ -98,8 +98,8 @@ super_change_keeps v w long enough h =
 super_found_alike : (J F : Image) (bits : ℕ) → length F ≡ length J → SuperKept (block_at (2 ^ bits) J 2) (block_at (2 ^ bits) F 2) → has_super F bits ≡ has_super J bits
 unfolding has_super
 super_found_alike J F bits size kept =
-    ap (λ n. nat_le (3 * 2 ^ bits) (512 * n) && number_at 0x0 8 (block_at (2 ^ bits) F 2) == super_signature && (geometry_of (block_at (2 ^ bits) F 2)).block_bits == bits) size
-    ∙ (ap (λ n. nat_le (3 * 2 ^ bits) (512 * length J) && n == super_signature && (geometry_of (block_at (2 ^ bits) F 2)).block_bits == bits) kept.signature
+    ap (λ n. nat_le (3 * 2 ^ bits) (512 * n) && number_at 0x0 8 (block_at (2 ^ bits) F 2) == super_signature && (geometry_in_block (block_at (2 ^ bits) F 2)).block_bits == bits) size
+    ∙ (ap (λ n. nat_le (3 * 2 ^ bits) (512 * length J) && n == super_signature && (geometry_in_block (block_at (2 ^ bits) F 2)).block_bits == bits) kept.signature
     ∙ ap (λ n. nat_le (3 * 2 ^ bits) (512 * length J) && number_at 0x0 8 (block_at (2 ^ bits) J 2) == super_signature && n == bits) kept.block_bits)
 
 -- block 2 of smaller blocks lies before block 2

@@ -1,5 +1,5 @@
 use Rattle.std.proofs.Common.{◌∙◌, sym, subst}
-use Rattle.o2_model.specs.AfterReplay.{volume_contents, volume_geometry}
+use Rattle.o2_model.specs.AfterReplay.{volume_contents, geometry_of}
 use Rattle.o2_model.specs.Consistent.{IsConsistent}
 use Rattle.o2_cases.specs.WholeImages.{dirty_blocks, clean_blocks, dirty_image}
 use Rattle.o2_cases.proofs.RecoverableImages.{consistent_of, failing_of, not_consistent, dirty_replayed, found_after}
@@ -21,4 +21,4 @@ pub returns-clause-contents : goal.returns-clause-contents
 returns-clause-contents c = found_after volume_contents c.blocks_are_volumes.ensures.clean (dirty_replayed c.blocks_are_volumes.ensures.dirty c.blocks_are_volumes.ensures.clean c.replays_of_blocks.ensures.write)
 
 pub returns-clause-geometry : goal.returns-clause-geometry
-returns-clause-geometry c = found_after volume_geometry c.blocks_are_volumes.ensures.clean (dirty_replayed c.blocks_are_volumes.ensures.dirty c.blocks_are_volumes.ensures.clean c.replays_of_blocks.ensures.write)
+returns-clause-geometry c = found_after geometry_of c.blocks_are_volumes.ensures.clean (dirty_replayed c.blocks_are_volumes.ensures.dirty c.blocks_are_volumes.ensures.clean c.replays_of_blocks.ensures.write)
