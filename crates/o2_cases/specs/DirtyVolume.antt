@@ -66,12 +66,41 @@ wrapping_block target bytes b =
     else if b == 57 then commit 9
     else logging_block target bytes b
 
+-- The log has three writes of one descriptor.
+abbrev pub logging_three : ℕ → List ℕ → ℕ → List ℕ → ℕ → List ℕ → ℕ → List ℕ
+logging_three first bytes second further third last b =
+    if b == 57 then header_bytes descriptor_type 9 ++ tag_bytes first 0x2 ++ tag_bytes second 0x2 ++ tag_bytes third 0xa
+    else if b == 58 then bytes
+    else if b == 59 then further
+    else if b == 60 then last
+    else if b == 61 then commit 9
+    else logging_block first bytes b
+
+-- ---- a second slot
+-- the dinode of its journal in block 34, without clusters, with these flags of its own
+abbrev pub second_journal : ℕ → List ℕ
+second_journal flags = dinode_with (record (own_dinode 34 0x100) { role_data = record { 0 = flags } }) []
+
+-- the same with cluster 15
+abbrev pub second_journal_in_cluster : ℕ → List ℕ
+second_journal_in_cluster flags =
+    dinode_with (record (one_cluster (own_dinode 34 0x100)) { role_data = record { 0 = flags } }) (one_record (record_of 0 1 0 120))
+
+-- these blocks where the system directory names it
+abbrev pub naming_second : (ℕ → List ℕ) → ℕ → List ℕ
+naming_second blocks = with_system_entry 34 (codes "journal:0001") blocks
+
 -- The log tells this number of slots, and block 34 has the journal of a second slot, with these flags of its own.
 abbrev pub logging_slots : ℕ → ℕ → ℕ → List ℕ
-logging_slots slots flags =
-    with_system_entry 34 (codes "journal:0001")
-    (in_place_of 34 (dinode_with (record (own_dinode 34 0x100) { role_data = record { 0 = flags } }) [])
-    (logging_block 2 (put_at 0x100 2 slots whole_super)))
+logging_slots slots flags = naming_second (in_place_of 34 (second_journal flags) (logging_block 2 (put_at 0x100 2 slots whole_super)))
+
+-- The log tells two slots. The system directory and the flags of the second journal are these, and those as the log leaves them.
+abbrev pub slot_comes : (ℕ → List ℕ) → ℕ → (ℕ → List ℕ) → ℕ → Volume
+slot_comes names flags new_names new_flags =
+    volume_with
+    (in_place_of 17 (names 17)
+    (in_place_of 34 (second_journal flags)
+    (logging_three 2 (put_at 0x100 2 2 whole_super) 17 (new_names 17) 34 (second_journal new_flags))))
 
 -- the same on a volume of two slots
 abbrev pub of_two_slots : (ℕ → List ℕ) → Volume

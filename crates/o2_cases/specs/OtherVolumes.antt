@@ -1,16 +1,16 @@
 -- Whole volumes that have more than the first one: in cluster 15, which is free there, or in block 44, which no extent block is in.
 -- Nothing fails on them either.
-use Rattle.std.specs.Prelude.{ℕ, ◌+◌, ◌==◌, nat_lt, List, [], ◌∷◌, ◌++◌, if◌then◌else◌}
+use Rattle.std.specs.Prelude.{ℕ, ◌+◌, ◌==◌, nat_lt, List, [], ◌∷◌, ◌++◌, codes, if◌then◌else◌}
 use Rattle.byteorder.specs.Endian.{little_bytes}
 use Rattle.o2_ondisk.specs.Fields.{put_at}
-use Rattle.o2_ondisk.specs.Signatures.{extent_block_signature, dx_leaf_signature, refcount_block_signature, dir_trailer_signature}
+use Rattle.o2_ondisk.specs.Signatures.{extent_block_signature, dx_root_signature, dx_leaf_signature, refcount_block_signature}
 use Rattle.o2_ondisk.specs.declared.extent_rec.ExtentRec.{ExtentRec}
 use Rattle.o2_model.specs.Volume.{Volume}
 use Rattle.o2_cases.specs.SmallBytes.{zero_bytes}
-use Rattle.o2_cases.specs.SmallEntries.{dots, named_bytes}
+use Rattle.o2_cases.specs.SmallEntries.{dots, named_bytes, void_bytes}
 use Rattle.o2_cases.specs.SmallFiles.{one_record, record_of, record_bytes}
-use Rattle.o2_cases.specs.WholeInodes.{plain_dinode, dinode_with, own_dinode, allocator_dinode, inline_directory, inline_entries, chain, whole_system_entries}
-use Rattle.o2_cases.specs.WholeVolume.{volume_with, with_number_at, whole_block, whole_group, index_entry, filled}
+use Rattle.o2_cases.specs.WholeInodes.{plain_dinode, dinode_with, own_dinode, allocator_dinode, totals, inline_directory, inline_entries, chain, whole_system_entries}
+use Rattle.o2_cases.specs.WholeVolume.{volume_with, with_number_at, whole_block, whole_group, index_entry, trailer_bytes, filled}
 
 -- ---- parts
 -- these blocks where cluster 15 is in use, and counted so
@@ -22,6 +22,11 @@ with_cluster blocks =
 abbrev pub with_fifth_block : (ℕ → List ℕ) → ℕ → List ℕ
 with_fifth_block blocks =
     with_number_at 40 0x40 1 0x1f (with_number_at 40 0xc 2 3 (with_number_at 23 0xb8 4 5 (with_number_at 23 0xd0 4 3 blocks)))
+
+-- these blocks where blocks 44 and 45 are in use, on bits 4 and 5 of their group, and counted so
+abbrev pub with_sixth_block : (ℕ → List ℕ) → ℕ → List ℕ
+with_sixth_block blocks =
+    with_number_at 40 0x40 1 0x3f (with_number_at 40 0xc 2 2 (with_number_at 23 0xb8 4 6 (with_number_at 23 0xd0 4 2 blocks)))
 
 -- these blocks where block 34 has an inode, on bit 18 of its group, and is counted so
 abbrev pub with_inode : (ℕ → List ℕ) → ℕ → List ℕ
@@ -83,8 +88,12 @@ directory_in_cluster =
 abbrev pub directory_block : List ℕ
 directory_block = put_at 260 2 260 (filled whole_system_entries)
 
+-- these blocks where the system directory stands in block 120, with these bytes
+abbrev pub with_directory_block : List ℕ → (ℕ → List ℕ) → ℕ → List ℕ
+with_directory_block bytes blocks = with_cluster (in_place_of 17 directory_in_cluster (in_place_of 120 bytes blocks))
+
 abbrev pub directory_blocks : (ℕ → List ℕ) → ℕ → List ℕ
-directory_blocks blocks = with_cluster (in_place_of 17 directory_in_cluster (in_place_of 120 directory_block blocks))
+directory_blocks blocks = with_directory_block directory_block blocks
 
 -- ---- allocators
 -- A second chain of inodes, with a group of 8 in cluster 15.
@@ -124,13 +133,27 @@ deep_index_blocks =
     (in_place_of 44 (extent_block_at 4 0 0 (record_of 0 1 0 120))
     leaf_index_blocks)))
 
+-- Directories 28 and 34 have no entries, and the indexes of both tell cluster 15 as theirs.
+abbrev pub two_index_blocks : ℕ → List ℕ
+two_index_blocks =
+    with_inode
+    (with_fifth_block
+    (in_place_of 34 (dinode_with (record (inline_directory (plain_dinode 34) 76) { dyn_features = record { 0 = 0x9 }; dx_root = 44 }) (inline_entries (void_bytes 12 ++ trailer_bytes)))
+    (in_place_of 44
+    (little_bytes 8 dx_root_signature ++ zero_bytes 8 ++ little_bytes 2 0 ++ little_bytes 2 4 ++ little_bytes 4 5 ++ little_bytes 8 44
+    ++ zero_bytes 16 ++ little_bytes 8 34 ++ zero_bytes 136 ++ one_record (record_of 0 1 0 120))
+    (in_place_of 72 (void_bytes 448 ++ zero_bytes 436 ++ trailer_bytes)
+    (in_place_of 120 (index_leaf 120 0 [])
+    (in_place_of 121 (index_leaf 121 0 [])
+    (with_number_at 43 0x38 4 0 leaf_index_blocks)))))))
+
 -- Directory 28 has a second block, whose one entry is a name of file 30 with a byte that is not ASCII; its index entry has no hash.
 abbrev pub two_directory_blocks : ℕ → List ℕ
 two_directory_blocks =
     with_number_at 28 0x20 8 1024
     (with_number_at 30 0x2a 2 2
     (with_number_at 43 0x38 4 4 (with_number_at 43 0xc6 2 4 (with_number_at 43 0x100 8 73
-    (in_place_of 73 (named_bytes 30 448 1 (0xe9 ∷ []) ++ little_bytes 8 0 ++ little_bytes 2 64 ++ zero_bytes 6 ++ little_bytes 8 dir_trailer_signature ++ zero_bytes 40)
+    (in_place_of 73 (named_bytes 30 448 1 (0xe9 ∷ []) ++ trailer_bytes)
     whole_block)))))
 
 -- Inode 33 is a directory, which the root names `l` and directory 28 names `h`.
@@ -159,3 +182,26 @@ leaf_refcount_blocks =
     ++ little_bytes 2 23 ++ little_bytes 2 1 ++ zero_bytes 12
     ++ little_bytes 8 11 ++ little_bytes 4 1 ++ little_bytes 4 2)
     whole_block)))))
+
+-- The list of the root names block 45, an extent block whose list names the leaf block.
+abbrev pub deep_refcount_blocks : ℕ → List ℕ
+deep_refcount_blocks =
+    with_sixth_block
+    (with_number_at 42 0x28 8 45 (with_number_at 42 0x80 2 1 (with_number_at 42 0x98 8 45
+    (in_place_of 45 (extent_block_at 5 0 0 (record_of 0 1 0 44))
+    leaf_refcount_blocks))))
+
+-- ---- a second slot
+-- its local alloc in block 34, with a window of this one cluster
+abbrev pub second_window : ℕ → ℕ → List ℕ
+second_window cluster =
+    with_system_entry 34 (codes "local_alloc:0001")
+    (in_place_of 34 (dinode_with (record (own_dinode 34 0xc0) { role_data = record { 0 = totals 0 1 } }) (little_bytes 4 cluster ++ little_bytes 2 304))
+    whole_block)
+
+-- its truncate log in block 34, with a record of this one cluster; the system directory is in block 120
+abbrev pub second_truncate_log : ℕ → (ℕ → List ℕ) → ℕ → List ℕ
+second_truncate_log cluster blocks =
+    with_directory_block (whole_system_entries ++ named_bytes 34 228 1 (codes "truncate_log:0001"))
+    (in_place_of 34 (dinode_with (own_dinode 34 0x800) (little_bytes 2 39 ++ little_bytes 2 1 ++ zero_bytes 4 ++ little_bytes 4 cluster ++ little_bytes 4 1))
+    blocks)

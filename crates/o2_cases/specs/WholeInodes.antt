@@ -5,7 +5,6 @@ use Rattle.o2_ondisk.specs.Dinodes.{dinode_fields, dinode_numbers}
 use Rattle.o2_ondisk.specs.Fields.{put_all}
 use Rattle.o2_ondisk.specs.Signatures.{inode_signature}
 use Rattle.o2_ondisk.specs.declared.dinode.Dinode.{Dinode}
-use Rattle.o2_model.specs.Allocators.{no_slot}
 use Rattle.o2_cases.specs.SmallBytes.{zero_bytes}
 use Rattle.o2_cases.specs.SmallEntries.{dots, named_bytes}
 
@@ -15,7 +14,7 @@ abbrev pub plain_dinode : ℕ → Dinode
 plain_dinode block = record {
   signature = record { 0 = inode_signature };
   generation = 0;
-  suballoc_slot = no_slot;
+  suballoc_slot = 0xffff;
   suballoc_bit = block - 16;
   links_count_hi = 0;
   xattr_inline_size = 0;

@@ -77,11 +77,13 @@ whole_index_root =
     ++ zero_bytes 4 ++ little_bytes 2 19 ++ little_bytes 2 3
     ++ index_entry 0 0 72 ++ index_entry 0 0 72 ++ index_entry 0xe97f8bba 0xf0a7cad4 72
 
+-- the trailer of a block of an indexed directory
+abbrev pub trailer_bytes : List ℕ
+trailer_bytes = little_bytes 8 0 ++ little_bytes 2 64 ++ zero_bytes 6 ++ little_bytes 8 dir_trailer_signature ++ zero_bytes 40
+
 -- the one block of directory 28: the dots, a name of file 29, and the trailer
 abbrev pub whole_directory_block : List ℕ
-whole_directory_block =
-    dots 28 18 ++ named_bytes 29 416 1 (codes "h")
-    ++ little_bytes 8 0 ++ little_bytes 2 64 ++ zero_bytes 6 ++ little_bytes 8 dir_trailer_signature ++ zero_bytes 40
+whole_directory_block = dots 28 18 ++ named_bytes 29 416 1 (codes "h") ++ trailer_bytes
 
 -- the superblock of a journal of 8 blocks, whose log begins this block of it (s_start)
 abbrev pub whole_journal_super : ℕ → List ℕ

@@ -1,5 +1,6 @@
 // What the definitions accept and what they refuse, each case the contract of a function that does nothing.
 pub mod allocator_checks;
+pub mod allowed_writes;
 pub mod blocks_of_images;
 pub mod directory_checks;
 pub mod entries;

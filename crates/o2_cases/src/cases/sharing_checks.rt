@@ -3,9 +3,10 @@
 ghost use Rattle.std.specs.Prelude.{◌≡◌, [], ◌∷◌, true, false};
 ghost use Rattle.o2_model.specs.declared.check.Check.TheVariants as check;
 ghost use Rattle.o2_model.specs.Failing.{failing};
+ghost use Rattle.o2_model.specs.Checks.Dx.{holds_index};
 ghost use Rattle.o2_model.specs.Checks.RefCover.{is_shared_evenly};
 ghost use Rattle.o2_cases.specs.WholeVolume.{volume_with, whole_block, with_number, with_number_at};
-ghost use Rattle.o2_cases.specs.OtherVolumes.{changed, deep_index_blocks, leaf_index_blocks, leaf_refcount_blocks, two_directory_blocks};
+ghost use Rattle.o2_cases.specs.OtherVolumes.{changed, deep_index_blocks, deep_refcount_blocks, leaf_index_blocks, leaf_refcount_blocks, two_directory_blocks, two_index_blocks};
 
 /// A law: an inode with refcounted records has a tree. One without may share with none.
 pub fn wrong_trees()
@@ -136,4 +137,24 @@ pub fn wrong_deep_indexes()
     ensures depth { failing (changed deep_index_blocks 44 0x30 2 1) ≡ (check.Dx, 28) ∷ (check.BlockAllocBit, 40) ∷ (check.ClusterAllocBit, 8) ∷ [] }
     ensures next { failing (changed deep_index_blocks 44 0x28 8 7) ≡ [] }
     ensures last { failing (changed deep_index_blocks 43 0x20 8 7) ≡ [] }
+{}
+
+/// A law: a cluster of an index has no claim of an index before it. Which that is goes by the directories' numbers.
+pub fn indexes_of_one_cluster()
+    ensures first { holds_index (volume_with two_index_blocks) 28 ≡ true }
+    ensures second { holds_index (volume_with two_index_blocks) 34 ≡ false }
+    ensures no_cluster { holds_index (changed two_index_blocks 44 0xd4 2 0) 34 ≡ true }
+    ensures first_unsound { holds_index (changed two_index_blocks 43 0x38 4 1) 34 ≡ true }
+{}
+
+/// A law: the leaf blocks of a tree may be named by extent blocks. These are on bits of their own, and tell their place, and the root the
+/// last one.
+pub fn deep_trees()
+    ensures sound { failing (volume_with deep_refcount_blocks) ≡ [] }
+    ensures last { failing (changed deep_refcount_blocks 42 0x28 8 0) ≡ (check.LastEb, 42) ∷ [] }
+    ensures next { failing (changed deep_refcount_blocks 45 0x28 8 44) ≡ (check.EbNext, 45) ∷ [] }
+    ensures bit { failing (changed deep_refcount_blocks 45 0x12 2 4) ≡ (check.MetaSuballoc, 45) ∷ [] }
+    ensures depth { failing (changed deep_refcount_blocks 42 0x80 2 2) ≡ (check.LastEb, 42) ∷ (check.RefTree, 42) ∷ (check.RefCover, 42) ∷ (check.BlockAllocBit, 40) ∷ [] }
+    ensures block_number { failing (changed deep_refcount_blocks 45 0x18 8 44) ≡ (check.LastEb, 42) ∷ (check.RefTree, 42) ∷ (check.RefCover, 42) ∷ (check.BlockAllocBit, 40) ∷ [] }
+    ensures room { failing (changed deep_refcount_blocks 45 0x32 2 29) ≡ (check.RefTree, 42) ∷ (check.RefCover, 42) ∷ (check.BlockAllocBit, 40) ∷ [] }
 {}

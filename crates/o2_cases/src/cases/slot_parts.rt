@@ -1,10 +1,17 @@
 // What a slot holds of the volume's clusters, on single cases.
-ghost use Rattle.std.specs.Prelude.{◌≡◌, [], ◌∷◌, true, false};
+ghost use Rattle.std.specs.Prelude.{◌≡◌, [], ◌∷◌, Some, true, false};
+ghost use Rattle.o2_model.specs.declared.claim.Owner.TheVariants.{LocalAlloc, TruncateLog};
+ghost use Rattle.o2_model.specs.Checks.LocalAlloc.{local_alloc_faults};
+ghost use Rattle.o2_model.specs.Checks.TruncateLog.{truncate_log_faults};
+ghost use Rattle.o2_model.specs.Claims.{claims_of, owner_in};
 ghost use Rattle.o2_model.specs.Slots.{is_sound_truncate_header, is_sound_truncation, is_sound_window, is_sound_window_size, truncated_clusters, window_clusters};
 ghost use Rattle.o2_ondisk.specs.Fields.{put_at};
 ghost use Rattle.o2_cases.specs.SmallBytes.{zero_bytes};
 ghost use Rattle.o2_cases.specs.SmallVolumes.{small};
+ghost use Rattle.o2_cases.specs.DirtyVolume.{of_two_slots};
+ghost use Rattle.o2_cases.specs.OtherVolumes.{second_truncate_log, second_window};
 ghost use Rattle.o2_cases.specs.SmallSlots.{in_dinode, with_truncate_log, with_window};
+ghost use Rattle.o2_cases.specs.WholeVolume.{whole_block, with_number_at};
 
 /// A law: the clusters of a truncate record are the volume's, and nobody else claims them; a void record has none.
 pub fn truncations_on_cases()
@@ -46,4 +53,16 @@ pub fn bounds_of_windows()
     ensures full_bitmap { is_sound_window (with_window 1 8 1) [] 40 ≡ true }
     ensures short_bitmap { is_sound_window (with_window 1 9 1) [] 40 ≡ false }
     ensures all_in_use { window_clusters (in_dinode (put_at 0xbc 4 1 (put_at 0xc0 4 7 (put_at 0xc4 2 304 (put_at 0xd0 1 1 (zero_bytes 512)))))) 40 ≡ [] }
+{}
+
+/// A law: the windows of all slots are judged one after the other, and then the truncate records of all slots, each by the claims before it.
+pub fn parts_of_two_slots()
+    ensures free { local_alloc_faults (of_two_slots (second_window 15)) ≡ [] }
+    ensures of_first { local_alloc_faults (of_two_slots (second_window 14)) ≡ 34 ∷ [] }
+    ensures over_record { local_alloc_faults (of_two_slots (second_window 12)) ≡ [] }
+    ensures record_under { truncate_log_faults (of_two_slots (second_window 12)) ≡ 27 ∷ [] }
+    ensures owners { owner_in (claims_of (of_two_slots (second_window 15))) 15 ≡ Some (LocalAlloc 1) }
+    ensures again { truncate_log_faults (of_two_slots (second_truncate_log 12 whole_block)) ≡ 34 ∷ [] }
+    ensures first_void { truncate_log_faults (of_two_slots (second_truncate_log 12 (with_number_at 27 0xc8 4 0 whole_block))) ≡ [] }
+    ensures second_owner { owner_in (claims_of (of_two_slots (second_truncate_log 12 (with_number_at 27 0xc8 4 0 whole_block)))) 12 ≡ Some (TruncateLog 1) }
 {}
