@@ -70,6 +70,13 @@ deep_blocks =
     (in_place_of 44 (extent_block_at 4 0 1 (record_of 0 3 0 41))
     whole_block)))
 
+-- The text of the link stands in cluster 15.
+abbrev pub long_link_blocks : ℕ → List ℕ
+long_link_blocks =
+    with_cluster
+    (in_place_of 33 (dinode_with (record (plain_dinode 33) { mode = 0o120777; links_count = 1; size = 1; clusters = 1 }) (one_record (record_of 0 1 0 120)))
+    whole_block)
+
 -- ---- the system directory
 -- with an entry more of this inode and name
 abbrev pub with_system_entry : ℕ → List ℕ → (ℕ → List ℕ) → ℕ → List ℕ
@@ -105,6 +112,14 @@ two_chain_blocks =
     (with_number_at 120 0xe 2 1
     (in_place_of 120 (whole_group 120 20 8 7 (0x01 ∷ []))
     whole_block)))
+
+-- The chains tell 0xc000_0000 and 0xc000_0001 bits, of which 0xc000_0000 each are clear: one is in use.
+abbrev pub large_total_blocks : ℕ → List ℕ
+large_total_blocks =
+    with_number_at 20 0xb8 4 1 (with_number_at 20 0xbc 4 0x8000_0001
+    (with_number_at 20 0xd0 4 0xc000_0000 (with_number_at 20 0xd4 4 0xc000_0000
+    (with_number_at 20 0xe0 4 0xc000_0000 (with_number_at 20 0xe4 4 0xc000_0001
+    two_chain_blocks)))))
 
 -- ---- indexes and directories
 -- a leaf of an index in this block, with so many entries

@@ -11,9 +11,9 @@ use Rattle.o2_model.specs.Volume.{Volume, over, blocks, is_valid}
 use Rattle.o2_model.specs.Inodes.{is_directory}
 use Rattle.o2_model.specs.Directories.{directory_entries, Entry, is_dot, named_entries, own_inodes}
 use Rattle.o2_model.specs.Allocators.{are_inodes, allocators}
-use Rattle.o2_model.specs.Groups.{group_walk, is_bit_set_in, groups, is_bit_set, bit_of_block, is_on_set_bit, is_inode, inodes_of}
+use Rattle.o2_model.specs.Groups.{group_walk, is_bit_set_in, groups, is_bit_set, bit_of_block, is_on_set_bit, is_inode, inodes_of, has_inode_bit}
 use Rattle.o2_model.specs.Tree.{names_users, followed, tree_walk}
-use Rattle.o2_model.specs.Frames.{IsIn, SameOn, SameTables, SameSystemFiles, group_blocks, has_bit}
+use Rattle.o2_model.specs.Frames.{IsIn, SameOn, SameTables, SameSystemFiles, group_blocks}
 use Rattle.o2_model.proofs.SameGroups.{groups_keep}
 use Rattle.o2_model.proofs.SameAllocators.{allocators_same, own_same}
 use Rattle.o2_model.proofs.SameTree.{tree_walk-same}
@@ -30,7 +30,7 @@ bits_same v at b (g ∷ gs) same =
     let here : is_on_set_bit (over v at) b g ≡ is_on_set_bit v b g = bit_same_at v at g.block (same g.block (or_left _ _ (eq-eqb g.block g.block refl))) (bit_of_block v g b) in
     rw (here, bits_same v at b gs (λ block h. same block (or_right _ _ h))) refl
 
-bit_same : (v : Volume) (at : ℕ → List ℕ) → SameTables v at → (b : ℕ) → has_bit (over v at) b ≡ has_bit v b
+bit_same : (v : Volume) (at : ℕ → List ℕ) → SameTables v at → (b : ℕ) → has_inode_bit (over v at) b ≡ has_inode_bit v b
 bit_same v at same b =
     ap (λ w. list_any (λ g. are_inodes g.of.bit_use && is_on_set_bit (over v at) b g) w.groups) same.groups
     ∙ bits_same v at b (groups v) same.bits
@@ -41,9 +41,9 @@ valid_same v at b same = rw same refl
 
 pub is_inode-same : (v : Volume) (at : ℕ → List ℕ) → SameTables v at → (b : ℕ) → is_inode (over v at) b ≡ is_inode v b
 unfolding is_inode
-is_inode-same v at same b = elim (cases_Bool (has_bit v b)) [
-  | inl bit ↦ ap (λ x. is_valid (over v at) b && x) (bit_same v at same b) ∙ ap (λ x. x && has_bit v b) (valid_same v at b (same.inodes b bit))
-  | inr none ↦ and_right (is_valid (over v at) b) (has_bit (over v at) b) (bit_same v at same b ∙ none) ∙ sym (and_right (is_valid v b) (has_bit v b) none)
+is_inode-same v at same b = elim (cases_Bool (has_inode_bit v b)) [
+  | inl bit ↦ ap (λ x. is_valid (over v at) b && x) (bit_same v at same b) ∙ ap (λ x. x && has_inode_bit v b) (valid_same v at b (same.inodes b bit))
+  | inr none ↦ and_right (is_valid (over v at) b) (has_inode_bit (over v at) b) (bit_same v at same b ∙ none) ∙ sym (and_right (is_valid v b) (has_inode_bit v b) none)
 ]
 
 pub inodes-same : (v : Volume) (at : ℕ → List ℕ) → SameTables v at → inodes_of (over v at) ≡ inodes_of v
@@ -85,7 +85,7 @@ bits_of_bytes v at b k same = ap (λ bytes. is_bit_set_in 0x40 bytes k) same
 
 -- The tables are the same where these blocks are: the dinodes of the volume's own files, the groups, and the inodes.
 pub tables_of_blocks : (v : Volume) (at : ℕ → List ℕ) → SameSystemFiles v at → SameOn (map (λ a. a.block) (allocators v)) v at → SameOn (group_blocks (group_walk v)) v at → (group_walk v).faults ≡ []
-    → ((b : ℕ) → has_bit v b ≡ true → at b ≡ v.at b) → ((d : ℕ) → IsIn v d → directory_entries (over v at) d ≡ directory_entries v d) → SameTables v at
+    → ((b : ℕ) → has_inode_bit v b ≡ true → at b ≡ v.at b) → ((d : ℕ) → IsIn v d → directory_entries (over v at) d ≡ directory_entries v d) → SameTables v at
 tables_of_blocks v at files dinodes descriptors none inodes entries = record {
   groups = groups_keep v at (allocators_same v at files) dinodes descriptors none;
   bits = λ b inside k. bits_of_bytes v at b k (descriptors.same b inside);

@@ -1,6 +1,5 @@
 -- Volumes with the same bytes in some blocks, or with the same tables.
-use Rattle.std.specs.Prelude.{◌≡◌, ◌⊎◌, ℕ, Bool, true, ◌&&◌, List, map, flat_map, filter, Some}
-use Rattle.std.specs.List.{list_any}
+use Rattle.std.specs.Prelude.{◌≡◌, ◌⊎◌, ℕ, true, List, map, flat_map, filter, Some}
 use Rattle.o2_model.specs.Words.{among}
 use Rattle.o2_model.specs.Volume.{Volume, over}
 use Rattle.o2_model.specs.Inodes.{leaf_records}
@@ -8,8 +7,7 @@ use Rattle.o2_model.specs.LeafRecords.{blocks_under}
 use Rattle.o2_model.specs.Directories.{is_written, directory_entries, own_inodes}
 use Rattle.o2_model.specs.declared.system_file.SystemFile.{SystemFile}
 use Rattle.o2_model.specs.SystemFiles.{system_inode}
-use Rattle.o2_model.specs.Allocators.{are_inodes}
-use Rattle.o2_model.specs.Groups.{GroupWalk, group_walk, groups, is_bit_set, is_on_set_bit, is_inode}
+use Rattle.o2_model.specs.Groups.{GroupWalk, group_walk, groups, is_bit_set, has_inode_bit, is_inode}
 use Rattle.o2_model.specs.Tree.{TreeWalk}
 
 -- these blocks have the same bytes
@@ -24,10 +22,6 @@ group_blocks w = map (λ g. g.block) w.groups
 abbrev pub entered_inodes : TreeWalk → List ℕ
 entered_inodes w = map (λ d. d.inode) w.entered
 
--- the block stands for a set bit above 0 of a group of inodes
-abbrev pub has_bit : Volume → ℕ → Bool
-has_bit v b = list_any (λ g. are_inodes g.of.bit_use && is_on_set_bit v b g) (groups v)
-
 -- the root, or an inode
 abbrev pub IsIn : Volume → ℕ → Type 0
 IsIn v b = (b ≡ v.geo.root) ⊎ (is_inode v b ≡ true)
@@ -36,7 +30,7 @@ IsIn v b = (b ≡ v.geo.root) ⊎ (is_inode v b ≡ true)
 pub record SameTables (v : Volume) (at : ℕ → List ℕ) : Type 0 where
   pub groups : group_walk (over v at) ≡ group_walk v
   pub bits : (b : ℕ) → among (group_blocks (group_walk v)) b ≡ true → (k : ℕ) → is_bit_set (over v at) b k ≡ is_bit_set v b k
-  pub inodes : (b : ℕ) → has_bit v b ≡ true → at b ≡ v.at b
+  pub inodes : (b : ℕ) → has_inode_bit v b ≡ true → at b ≡ v.at b
   pub own : own_inodes (over v at) ≡ own_inodes v
   pub entries : (d : ℕ) → IsIn v d → directory_entries (over v at) d ≡ directory_entries v d
 

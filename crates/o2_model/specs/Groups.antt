@@ -130,8 +130,12 @@ groups_of v allocator = filter (λ g. g.of.block == allocator) (groups v)
 abbrev pub is_on_set_bit : Volume → ℕ → Group → Bool
 is_on_set_bit v b g = option_map_or (λ k. nat_lt 0 k && is_bit_set v g.block k) (bit_of_block v g b) false
 
+-- the block stands for a set bit above 0 of a group of inodes
+abbrev pub has_inode_bit : Volume → ℕ → Bool
+has_inode_bit v b = list_any (λ g. are_inodes g.of.bit_use && is_on_set_bit v b g) (groups v)
+
 unfoldable pub is_inode : Volume → ℕ → Bool
-is_inode v b = is_valid v b && list_any (λ g. are_inodes g.of.bit_use && is_on_set_bit v b g) (groups v)
+is_inode v b = is_valid v b && has_inode_bit v b
 
 -- the inodes of the volume, rising: the valid dinodes on set bits of inode allocators
 unfoldable pub inodes_of : Volume → List ℕ

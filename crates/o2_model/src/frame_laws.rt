@@ -2,7 +2,7 @@
 ghost use Rattle.std.specs.Prelude.{◌≡◌, ◌^◌, ℕ, List, map, [], length, true};
 ghost use Rattle.o2_disk.specs.Image.{Image, block_at};
 ghost use Rattle.o2_model.specs.Volume.{Volume, over, volume_of};
-ghost use Rattle.o2_model.specs.Frames.{SameOn, SameTables, IsIn, SameSystemFiles, group_blocks, content_blocks, has_bit};
+ghost use Rattle.o2_model.specs.Frames.{SameOn, SameTables, IsIn, SameSystemFiles, group_blocks, content_blocks};
 ghost use Rattle.o2_model.specs.Inodes.{extents};
 ghost use Rattle.o2_model.specs.Directories.{dir_blocks, directory_entries, own_inodes};
 ghost use Rattle.o2_model.specs.Contents.{bytes_of, content_of};
@@ -10,7 +10,7 @@ ghost use Rattle.o2_model.specs.Files.{file_of};
 ghost use Rattle.o2_model.specs.Allocators.{allocators};
 ghost use Rattle.o2_model.specs.declared.system_file.SystemFile.{SystemFile};
 ghost use Rattle.o2_model.specs.SystemFiles.{system_inode};
-ghost use Rattle.o2_model.specs.Groups.{group_walk, is_inode, inodes_of};
+ghost use Rattle.o2_model.specs.Groups.{group_walk, is_inode, inodes_of, has_inode_bit};
 ghost use Rattle.o2_model.specs.Tree.{followed, tree_walk, tree_of};
 
 /// A law: a directory's entries depend on its dinode, its extents and its blocks, and on no other block.
@@ -45,7 +45,7 @@ pub fn tables_tell_inodes_and_tree()
 /// A law: the tables are the same where these blocks are: the dinodes of the volume's own files, the groups, and the inodes.
 pub fn blocks_tell_tables()
     ensures { (v : Volume) (at : ℕ → List ℕ) → SameSystemFiles v at → SameOn (map (λ a. a.block) (allocators v)) v at → SameOn (group_blocks (group_walk v)) v at → (group_walk v).faults ≡ []
-        → ((b : ℕ) → has_bit v b ≡ true → at b ≡ v.at b) → ((d : ℕ) → IsIn v d → directory_entries (over v at) d ≡ directory_entries v d) → SameTables v at }
+        → ((b : ℕ) → has_inode_bit v b ≡ true → at b ≡ v.at b) → ((d : ℕ) → IsIn v d → directory_entries (over v at) d ≡ directory_entries v d) → SameTables v at }
 {}
 
 /// A law: what an inode holds depends on its dinode, its extents and the blocks of its data, and on no other block, and so

@@ -7,8 +7,8 @@ ghost use Rattle.o2_model.specs.declared.system_file.SystemFile.{SystemFile};
 ghost use Rattle.o2_model.specs.declared.claim.Claim.{Claim};
 ghost use Rattle.o2_model.specs.Volume.{Volume, over, volume_of};
 ghost use Rattle.o2_model.specs.Clusters.{cluster_of};
-ghost use Rattle.o2_model.specs.Groups.{group_walk, groups, is_of_clusters, is_inode, inodes_of};
-ghost use Rattle.o2_model.specs.Frames.{SameSystemFiles, has_bit, content_blocks};
+ghost use Rattle.o2_model.specs.Groups.{group_walk, groups, is_of_clusters, is_inode, inodes_of, has_inode_bit};
+ghost use Rattle.o2_model.specs.Frames.{SameSystemFiles, content_blocks};
 ghost use Rattle.o2_model.specs.Journals.{journals};
 ghost use Rattle.o2_model.specs.Inodes.{extents, is_directory, leaf_records};
 ghost use Rattle.o2_model.specs.LeafRecords.{blocks_under};
@@ -50,7 +50,7 @@ pub fn first_blocks_are_owned()
 /// A law: each block that stands on a set bit of a group of inodes is owned, and so is each dinode. Where META_BLOCK holds,
 /// so are the extent blocks of all inodes and the blocks of refcount trees.
 pub fn dinodes_and_extent_blocks_are_owned()
-    ensures bit { (v : Volume) (b : ℕ) → has_bit v b ≡ true → is_owned v b ≡ true }
+    ensures bit { (v : Volume) (b : ℕ) → has_inode_bit v b ≡ true → is_owned v b ≡ true }
     ensures dinode { (v : Volume) (b : ℕ) → is_inode v b ≡ true → is_owned v b ≡ true }
     ensures metadata { (v : Volume) (b : ℕ) → meta_block_faults v ≡ [] → among (metadata_blocks v) b ≡ true → is_owned v b ≡ true }
 {}

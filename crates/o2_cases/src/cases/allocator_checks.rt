@@ -2,8 +2,12 @@
 ghost use Rattle.std.specs.Prelude.{◌≡◌, [], ◌∷◌};
 ghost use Rattle.o2_model.specs.declared.check.Check.TheVariants as check;
 ghost use Rattle.o2_model.specs.Failing.{failing};
+ghost use Rattle.o2_model.specs.Checks.AllocTotals.{alloc_totals_faults};
+ghost use Rattle.o2_model.specs.Checks.ClusterAllocBit.{cluster_of_bit};
+ghost use Rattle.o2_cases.specs.SmallGroups.{bitmap};
+ghost use Rattle.o2_cases.specs.SmallVolumes.{large};
 ghost use Rattle.o2_cases.specs.WholeVolume.{volume_with, whole_block, with_number, with_number_at};
-ghost use Rattle.o2_cases.specs.OtherVolumes.{changed, two_chain_blocks};
+ghost use Rattle.o2_cases.specs.OtherVolumes.{changed, large_total_blocks, two_chain_blocks};
 
 /// A law: a chain that comes back to its group is told at the link. A group that no chain reaches is told at its place, and its chain
 /// then has other sums.
@@ -72,6 +76,7 @@ pub fn two_chains()
     ensures no_second { failing (changed two_chain_blocks 20 0xe8 8 0)
         ≡ (check.InodeClusters, 20) ∷ (check.ClusterAllocBit, 8) ∷ (check.ChainBits, 20) ∷ [] }
     ensures bad_first { failing (changed two_chain_blocks 20 0xd8 8 40) ≡ (check.Sysfile, 17) ∷ [] }
+    ensures first_bit { failing (changed two_chain_blocks 120 0x40 1 0x03) ≡ (check.InodeAllocBit, 120) ∷ (check.GroupFreeBits, 120) ∷ [] }
     ensures bad_second { failing (changed two_chain_blocks 20 0xe8 8 16)
         ≡ (check.ChainLink, 20) ∷ (check.InodeClusters, 20) ∷ (check.ClusterAllocBit, 8) ∷ (check.ChainBits, 20) ∷ [] }
 {}
@@ -101,4 +106,17 @@ pub fn lost_groups()
         ≡ (check.ChainLink, 23) ∷ (check.MetaBlock, 41) ∷ (check.MetaBlock, 42) ∷ (check.Dx, 28) ∷ (check.InodeClusters, 23) ∷ (check.ClusterAllocBit, 8) ∷ (check.ChainBits, 23) ∷ [] }
     ensures next { failing (with_number 16 0x18 8 48) ≡ (check.ChainLink, 16) ∷ [] }
     ensures next_of_blocks { failing (with_number 40 0x18 8 16) ≡ (check.ChainLink, 40) ∷ [] }
+{}
+
+/// A law: the sums over the chains are told modulo 2^32, whatever the chains tell. Chains may tell more clear bits than bits.
+pub fn large_totals()
+    ensures large { alloc_totals_faults (volume_with large_total_blocks) ≡ [] }
+    ensures used { alloc_totals_faults (changed large_total_blocks 20 0xb8 4 2) ≡ 20 ∷ [] }
+    ensures total { alloc_totals_faults (changed large_total_blocks 20 0xbc 4 1) ≡ 20 ∷ [] }
+{}
+
+/// A law: bit k of a group of the global bitmap stands for the k-th cluster of the group, here of groups of 3584.
+pub fn clusters_of_bits()
+    ensures first { cluster_of_bit (large 2048) (record { of = bitmap; chain = 0; block = 2048; bits = 3584 }) 5 ≡ 5 }
+    ensures second { cluster_of_bit (large 2048) (record { of = bitmap; chain = 0; block = 7340032; bits = 1416 }) 5 ≡ 3589 }
 {}

@@ -42,6 +42,7 @@ pub fn wrong_first_entries()
     ensures first_void { failing (with_number 18 200 8 0) ≡ (check.DirBlock, 18) ∷ (check.InodeCount, 18) ∷ [] }
     ensures second_void { failing (with_number 18 216 8 0) ≡ (check.DirBlock, 18) ∷ (check.InodeCount, 18) ∷ [] }
     ensures first_named { failing (with_number 22 212 1 0x78) ≡ (check.DirBlock, 22) ∷ (check.OrphanEntry, 22) ∷ [] }
+    ensures one_entry { failing (with_number 22 208 2 48) ≡ (check.DirBlock, 22) ∷ (check.NotConnected, 32) ∷ [] }
     ensures second_block { failing (changed two_directory_blocks 73 8 2 500)
         ≡ (check.DirBlock, 73) ∷ (check.Dx, 28) ∷ (check.InodeCount, 30) ∷ (check.BlockAllocBit, 40) ∷ [] }
     ensures void_in_second_block { failing (changed two_directory_blocks 73 0 8 0)

@@ -3,7 +3,7 @@ ghost use Rattle.std.specs.Prelude.{◌≡◌, [], ◌∷◌};
 ghost use Rattle.o2_model.specs.declared.check.Check.TheVariants as check;
 ghost use Rattle.o2_model.specs.Failing.{failing};
 ghost use Rattle.o2_cases.specs.WholeVolume.{volume_with, whole_block, with_number, with_number_at};
-ghost use Rattle.o2_cases.specs.OtherVolumes.{changed, two_directory_blocks};
+ghost use Rattle.o2_cases.specs.OtherVolumes.{changed, long_link_blocks, two_directory_blocks};
 
 /// A law: an inode has one of the seven kinds, and its entries tell which.
 pub fn wrong_kinds()
@@ -34,6 +34,7 @@ pub fn wrong_sizes()
     ensures empty_link { failing (with_number 33 0x20 8 0) ≡ (check.InodeSize, 33) ∷ [] }
     ensures part_of_block { failing (with_number 28 0x20 8 513) ≡ (check.InodeSize, 28) ∷ [] }
     ensures inline_room { failing (with_number 18 0xc0 2 313) ≡ (check.InodeSize, 18) ∷ [] }
+    ensures behind_room { failing (with_number 18 0xc2 1 1) ≡ [] }
     ensures long_file { failing (with_number 29 0x20 8 1000000) ≡ [] }
 {}
 
@@ -90,6 +91,8 @@ pub fn wrong_sizes_of_directories()
 pub fn wrong_sizes_of_files()
     ensures long_text { failing (with_number 33 0x20 8 319) ≡ [] }
     ensures longer_text { failing (with_number 33 0x20 8 320) ≡ (check.InodeSize, 33) ∷ [] }
+    ensures in_cluster { failing (volume_with long_link_blocks) ≡ [] }
+    ensures without_first { failing (changed long_link_blocks 33 0xd0 4 1) ≡ (check.InodeSize, 33) ∷ [] }
     ensures no_cluster { failing (with_number 33 0x14 4 1) ≡ (check.Extent, 33) ∷ (check.InodeSize, 33) ∷ (check.InodeClusters, 33) ∷ [] }
     ensures longest { failing (with_number 29 0x20 8 0x1000_0000_0000) ≡ [] }
     ensures longer { failing (with_number 29 0x20 8 0x1000_0000_0001) ≡ (check.InodeSize, 29) ∷ [] }

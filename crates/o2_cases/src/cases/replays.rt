@@ -82,10 +82,12 @@ pub fn clean_journals_on_cases()
     ensures clean { as_clean (journal_dinode 0 56) ≡ journal_dinode 0 56 }
 {}
 
-/// A law: the flags of a dirty journal's records are not looked at, but its extents are, and they come before its superblock, and that before
+/// A law: the flags of a dirty journal's records are not looked at, as far as EXTENT knows them, but its extents are, and they come before its superblock, and that before
 /// its features.
 pub fn faults_in_order()
     ensures not_written { journal_fault (logging_with 88 (codes "world") 25 0xd7 1 1) ≡ None }
+    ensures shared { journal_fault (logging_with 88 (codes "world") 25 0xd7 1 3) ≡ None }
+    ensures unknown_flags { journal_fault (logging_with 88 (codes "world") 25 0xd7 1 4) ≡ Some (0, Extents) }
     ensures no_clusters { journal_fault (logging_with 88 (codes "world") 25 0xc4 2 0) ≡ Some (0, Extents) }
     ensures overlap { journal_fault (volume_with (with_number_at 25 0xc4 2 2 (with_number_at 25 0xe4 4 1 (logging_block 88 [])))) ≡ Some (0, Extents) }
     ensures superblock_first { journal_fault (volume_with (with_number_at 56 0x1f 1 8 (with_number_at 56 0x2b 1 0x10 (logging_block 88 [])))) ≡ Some (0, Superblock) }

@@ -74,6 +74,7 @@ pub fn wrong_sharing()
     ensures with_itself { failing (volume_with (with_number_at 30 0x14 4 2 (with_number_at 30 0xc4 2 2 (with_number_at 30 0xe0 8 0x0200_0001_0000_0001 (with_number_at 30 0xe8 8 88 (with_number_at 42 0x9c 4 3 whole_block)))))) ≡ [] }
     ensures not_marked { failing (with_number 31 0xd7 1 0) ≡ (check.RefCount, 42) ∷ (check.DupClusters, 30) ∷ (check.DupClusters, 31) ∷ [] }
     ensures twice { failing (with_number 41 0x58 8 80) ≡ (check.DupClusters, 29) ∷ (check.ClusterAllocBit, 8) ∷ [] }
+    ensures twice_marked { failing (volume_with (with_number_at 41 0x47 1 2 (with_number_at 41 0x57 1 2 (with_number_at 41 0x58 8 80 whole_block)))) ≡ (check.RefTree, 29) ∷ (check.ClusterAllocBit, 8) ∷ [] }
     ensures over_file { failing (with_number 31 0xd8 8 80) ≡ (check.RefCover, 42) ∷ (check.RefCount, 42) ∷ (check.DupClusters, 29) ∷ (check.DupClusters, 31) ∷ [] }
 {}
 

@@ -3,7 +3,8 @@ ghost use Rattle.std.specs.Prelude.{◌≡◌, [], ◌∷◌, true, false, codes
 ghost use Rattle.o2_model.specs.declared.check.Check.TheVariants as check;
 ghost use Rattle.o2_model.specs.Failing.{failing};
 ghost use Rattle.o2_model.specs.Checks.Root.{is_sound_root};
-ghost use Rattle.o2_cases.specs.WholeVolume.{volume_with, whole, whole_block, with_number, with_number_at};
+ghost use Rattle.o2_model.specs.Checks.Super.{super_faults};
+ghost use Rattle.o2_cases.specs.WholeVolume.{volume_with, whole, whole_block, whole_geo, with_number, with_number_at};
 ghost use Rattle.o2_cases.specs.OtherVolumes.{changed, directory_blocks, with_system_entry, with_system_file};
 
 /// A law: block 2 that tells another block is no superblock, and a system directory that its entries do not fill can't be read.
@@ -12,6 +13,7 @@ pub fn broken_directories()
     ensures not_in_use { failing (with_number 2 0x2c 4 0) ≡ (check.Super, 2) ∷ [] }
     ensures short_system_directory { failing (with_number 17 0x20 8 283) ≡ (check.Sysdir, 17) ∷ [] }
     ensures root_a_file { failing (with_number 18 0x28 2 0o100644) ≡ (check.Root, 18) ∷ [] }
+    ensures root_no_dinode { failing (with_number 18 0x0 8 0) ≡ (check.Root, 18) ∷ [] }
 {}
 
 /// A law: the files that the system directory names have the flags and kinds of their names and stand on bits, each has one name, and
@@ -132,4 +134,13 @@ pub fn broken_journal_superblocks()
     ensures read_only { failing (with_number 56 0x2f 1 1) ≡ (check.Journal, 25) ∷ [] }
     ensures two_features { failing (with_number 56 0x2b 1 3) ≡ [] }
     ensures recovery_generation { failing (with_number 25 0xb8 8 0x7_0000_0002) ≡ [] }
+{}
+
+/// A law: the superblock is told where its sizes, its first group, the device or its two directories are wrong.
+pub fn wrong_superblocks()
+    ensures sound { super_faults whole ≡ [] }
+    ensures slots { super_faults (record whole { geo = record whole_geo { slots = 0 } }) ≡ 2 ∷ [] }
+    ensures first_group { super_faults (record whole { geo = record whole_geo { first_group = 9 } }) ≡ 2 ∷ [] }
+    ensures device { super_faults (record whole { on_device = 127 }) ≡ 2 ∷ [] }
+    ensures directories { super_faults (record whole { geo = record whole_geo { root = 17 } }) ≡ 2 ∷ [] }
 {}

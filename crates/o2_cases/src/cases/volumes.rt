@@ -11,7 +11,7 @@ ghost use Rattle.o2_model.specs.Inodes.{extent_blocks_of, records_of};
 ghost use Rattle.o2_model.specs.Contents.{content_of};
 ghost use Rattle.o2_model.specs.Directories.{directory_entries};
 ghost use Rattle.o2_model.specs.Contents.Content.{Bytes, Entries, Nothing};
-ghost use Rattle.o2_model.specs.Tree.{inode_at, is_met, link_count, met_inodes, tree_directories, tree_walk};
+ghost use Rattle.o2_model.specs.Tree.{inode_at, is_met, link_count, met_inodes, tree_directories, tree_inodes, tree_walk};
 ghost use Rattle.o2_model.specs.Intact.{intact_paths, is_intact};
 ghost use Rattle.o2_model.specs.AfterReplay.{geometry_of};
 ghost use Rattle.o2_model.specs.Files.{file_of, links_of, shared_references};
@@ -210,6 +210,7 @@ pub fn places_of_entries()
     ensures behind_void { map {B = ℕ × ℕ} (λ e. (e.inode, e.at)) (directory_entries (with_number 22 216 8 0) 22) ≡ (22, 0) ∷ (32, 32) ∷ [] }
     ensures second_block { map {B = ℕ × ℕ} (λ e. (e.block, e.at)) (directory_entries (volume_with two_directory_blocks) 28) ≡ (72, 0) ∷ (72, 16) ∷ (72, 32) ∷ (73, 0) ∷ [] }
     ensures namesakes { inode_at (with_number 18 292 1 0x61) (codes "a" ∷ []) ≡ Some 30 }
+    ensures at_paths { tree_inodes (with_number 18 292 1 0x61) ≡ 18 ∷ 28 ∷ 29 ∷ 30 ∷ 30 ∷ 33 ∷ 29 ∷ [] }
     ensures names_of_one { met_inodes (with_number 18 292 1 0x61) ≡ 18 ∷ 28 ∷ 29 ∷ 30 ∷ 31 ∷ 33 ∷ [] }
     ensures index_leaf { is_owned (volume_with leaf_index_blocks) 127 ≡ true }
     ensures unsound_index { is_owned (changed leaf_index_blocks 43 0x38 4 9) 127 ≡ false }

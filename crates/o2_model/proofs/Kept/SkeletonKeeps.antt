@@ -1,6 +1,7 @@
 -- Where nothing fails, blocks that agree on the owned ones keep the checks of the root, the system directory, its files and the slot
 -- map.
 use Rattle.std.proofs.Common.{◌≡◌, inl, inr, ℕ, Bool, true, false, not, ◌&&◌, ◌==◌, List, [], ◌++◌, map, refl, ◌∙◌, ap}
+use Rattle.std.specs.List.{list_all}
 use Rattle.std.specs.Prelude.{filter}
 use Rattle.std.specs.Option.{option_map_or}
 use Rattle.std.proofs.lemmas.Bool.{cases_Bool}
@@ -12,7 +13,7 @@ use Rattle.o2_model.specs.Volume.{Volume, over, is_valid}
 use Rattle.o2_model.specs.Inodes.{is_directory, is_file, extents, leaf_records}
 use Rattle.o2_model.specs.Directories.{Entry, directory_entries, is_dot}
 use Rattle.o2_model.specs.SystemFiles.{required_files, system_inode}
-use Rattle.o2_model.specs.Groups.{is_inode}
+use Rattle.o2_model.specs.Groups.{has_inode_bit, is_inode}
 use Rattle.o2_model.specs.Checks.InodeSize.{inode_size_faults}
 use Rattle.o2_model.specs.Checks.DirBlock.{is_sound_dir_block, dir_block_faults}
 use Rattle.o2_model.specs.Checks.DirentName.{dirent_name_faults}
@@ -27,7 +28,7 @@ use Rattle.o2_model.proofs.SameAllocators.{inode_same}
 use Rattle.o2_model.proofs.Agreeing.{all_agree, fails_agree, option_agree}
 use Rattle.o2_model.proofs.Owned.SystemOwned.{root_is_inode, sysdir_is_inode, sysdir_is_directory, file_is_inode, directory_apart}
 use Rattle.o2_model.proofs.Owned.OwnedTells.{dinode_same, owned_tell_extents, owned_tell_dir_blocks, owned_tell_entries}
-use Rattle.o2_model.proofs.Owned.OwnedTables.{owned_tell_system_files, owned_tell_inode}
+use Rattle.o2_model.proofs.Owned.OwnedTables.{owned_tell_system_files, owned_tell_inode, bits_same}
 use Rattle.o2_model.proofs.SameInodes.{directory_same, valid_same}
 use Rattle.o2_model.proofs.Kept.JournalsKeep.{extent_faults_same}
 use Rattle.o2_model.proofs.Kept.InodeChecksKeep.{sound_size_same}
@@ -114,8 +115,9 @@ unfolding has_system_files required_files
 there_same v at none agrees =
     let files = owned_tell_system_files v at none agrees in
     let all = all_agree (is_there (over v at)) (is_there v) (required_files v) (λ file is. ap (λ o. option_map_or (λ b. true) o false) (inode_same v at files file)) in
-    rw (owned_tell_inode v at v.geo.root none agrees, owned_tell_inode v at v.geo.sysdir none agrees)
-    (ap (λ x. x && is_inode v v.geo.root && is_inode v v.geo.sysdir) all)
+    ap (λ x. x && has_inode_bit (over v at) v.geo.root && has_inode_bit (over v at) v.geo.sysdir) all
+    ∙ (ap (λ x. list_all (is_there v) (required_files v) && x && has_inode_bit (over v at) v.geo.sysdir) (bits_same v at v.geo.root none agrees)
+    ∙ ap (λ x. list_all (is_there v) (required_files v) && has_inode_bit v v.geo.root && x) (bits_same v at v.geo.sysdir none agrees))
 
 -- where it fails, by whether no file is missing, by what is judged of each entry, and by the entries
 abbrev file_faults : Volume → Bool → (Entry → Bool) → List Entry → List ℕ

@@ -10,8 +10,7 @@ use Rattle.o2_model.specs.declared.allocator.Group.{Group}
 use Rattle.o2_model.specs.Words.{among}
 use Rattle.o2_model.specs.Volume.{Volume, is_valid}
 use Rattle.o2_model.specs.Allocators.{are_clusters, are_inodes, are_metadata}
-use Rattle.o2_model.specs.Groups.{block_of_bit, bit_of_block, is_bit_set, is_of_clusters, is_on_set_bit, is_inode, groups}
-use Rattle.o2_model.specs.Frames.{has_bit}
+use Rattle.o2_model.specs.Groups.{block_of_bit, bit_of_block, is_bit_set, is_of_clusters, is_on_set_bit, is_inode, groups, has_inode_bit}
 use Rattle.o2_model.specs.Metadata.{is_on_bit, group_with_bit, is_on_metadata_bit, metadata_blocks}
 use Rattle.o2_model.specs.Checks.MetaBlock.{is_sound_metadata_block, meta_block_faults}
 use Rattle.o2_model.specs.Files.{times_in}
@@ -45,7 +44,7 @@ metadata_apart Inodes h = refl
 metadata_apart Metadata h = refl
 
 -- ---- inodes
-pub inode_bit_owned : (v : Volume) (b : ℕ) → has_bit v b ≡ true → is_owned v b ≡ true
+pub inode_bit_owned : (v : Volume) (b : ℕ) → has_inode_bit v b ≡ true → is_owned v b ≡ true
 inode_bit_owned v b h =
     let at = passing (λ g. are_inodes g.of.bit_use && is_on_set_bit v b g) (groups v) h in
     let parts = and_parts (are_inodes at.item.of.bit_use) (is_on_set_bit v b at.item) at.passes in
@@ -54,7 +53,7 @@ inode_bit_owned v b h =
 
 pub dinode_owned : (v : Volume) (b : ℕ) → is_inode v b ≡ true → is_owned v b ≡ true
 unfolding is_inode
-dinode_owned v b h = inode_bit_owned v b (and_parts (is_valid v b) (has_bit v b) h).1
+dinode_owned v b h = inode_bit_owned v b (and_parts (is_valid v b) (has_inode_bit v b) h).1
 
 -- ---- extent blocks and refcount blocks
 pub metadata_bit_owned : (v : Volume) (b : ℕ) → is_on_metadata_bit v b ≡ true → is_owned v b ≡ true

@@ -16,8 +16,8 @@ use Rattle.o2_model.specs.Inodes.{leaf_records, is_inline}
 use Rattle.o2_model.specs.LeafRecords.{clusters_under, blocks_under}
 use Rattle.o2_model.specs.Directories.{dir_block, mapped, is_written, dir_blocks}
 use Rattle.o2_model.specs.Journals.{journals}
-use Rattle.o2_model.specs.Groups.{is_inode, inodes_of}
-use Rattle.o2_model.specs.Frames.{has_bit, content_blocks}
+use Rattle.o2_model.specs.Groups.{is_inode, inodes_of, has_inode_bit}
+use Rattle.o2_model.specs.Frames.{content_blocks}
 use Rattle.o2_model.specs.Claims.{claims_by, clusters_of, inode_claims}
 use Rattle.o2_model.specs.Owned.{needs_bytes, is_owned}
 use Rattle.o2_model.proofs.Found.{found, any_map, any_flat, any_filter, any_range, passing, range_bounds, each_of}
@@ -34,7 +34,7 @@ inode_below v b h = grind (arith, nat_tests)
 
 inode_in : (v : Volume) (i : ℕ) → is_inode v i ≡ true → i < blocks v
 unfolding is_inode
-inode_in v i h = inode_below v i (and_parts (is_valid v i) (has_bit v i) h).0
+inode_in v i h = inode_below v i (and_parts (is_valid v i) (has_inode_bit v i) h).0
 
 -- a test that an inode passes finds one
 pub among_inodes : (v : Volume) (i : ℕ) (p : ℕ → Bool) → is_inode v i ≡ true → p i ≡ true → list_any p (inodes_of v) ≡ true

@@ -17,8 +17,8 @@ use Rattle.o2_model.specs.declared.system_file.SystemFile.TheVariants.{GlobalIno
 use Rattle.o2_model.specs.Volume.{Volume, over, blocks, is_valid}
 use Rattle.o2_model.specs.SystemFiles.{system_inode, slots}
 use Rattle.o2_model.specs.Allocators.{are_inodes, is_allocator, allocator_if, allocator_named, slot_allocators, allocators, no_slot}
-use Rattle.o2_model.specs.Groups.{group_walk, groups, is_bit_set_in, bit_of_block, is_on_set_bit, is_inode, inodes_of}
-use Rattle.o2_model.specs.Frames.{SameOn, SameSystemFiles, group_blocks, has_bit}
+use Rattle.o2_model.specs.Groups.{group_walk, groups, is_bit_set_in, bit_of_block, is_on_set_bit, is_inode, inodes_of, has_inode_bit}
+use Rattle.o2_model.specs.Frames.{SameOn, SameSystemFiles, group_blocks}
 use Rattle.o2_model.specs.Failing.{faults, failing}
 use Rattle.o2_model.specs.Agrees.{AgreesOnOwned}
 use Rattle.o2_model.proofs.NothingFails.{no_check_fails}
@@ -101,16 +101,16 @@ bit_same : (v : Volume) (at : ℕ → List ℕ) (b : ℕ) → AgreesOnOwned v at
 bit_same v at b agrees g is =
     ap (λ bytes. are_inodes g.of.bit_use && option_map_or (λ k. nat_lt 0 k && is_bit_set_in 0x40 bytes k) (bit_of_block v g b) false) (agrees.same g.block (descriptor_owned v g is))
 
-bits_same : (v : Volume) (at : ℕ → List ℕ) (b : ℕ) → failing v ≡ [] → AgreesOnOwned v at → has_bit (over v at) b ≡ has_bit v b
+pub bits_same : (v : Volume) (at : ℕ → List ℕ) (b : ℕ) → failing v ≡ [] → AgreesOnOwned v at → has_inode_bit (over v at) b ≡ has_inode_bit v b
 bits_same v at b none agrees =
     ap (λ w. list_any (λ g. are_inodes g.of.bit_use && is_on_set_bit (over v at) b g) w.groups) (owned_tell_groups v at none agrees)
     ∙ any_agree (λ g. are_inodes g.of.bit_use && is_on_set_bit (over v at) b g) (λ g. are_inodes g.of.bit_use && is_on_set_bit v b g) (groups v) (bit_same v at b agrees)
 
 pub owned_tell_inode : (v : Volume) (at : ℕ → List ℕ) (b : ℕ) → failing v ≡ [] → AgreesOnOwned v at → is_inode (over v at) b ≡ is_inode v b
 unfolding is_inode
-owned_tell_inode v at b none agrees = elim (cases_Bool (has_bit v b)) [
-  | inl bit ↦ ap (λ x. is_valid (over v at) b && x) (bits_same v at b none agrees) ∙ ap (λ x. x && has_bit v b) (valid_same v at b (agrees.same b (inode_bit_owned v b bit)))
-  | inr other ↦ and_right (is_valid (over v at) b) (has_bit (over v at) b) (bits_same v at b none agrees ∙ other) ∙ sym (and_right (is_valid v b) (has_bit v b) other)
+owned_tell_inode v at b none agrees = elim (cases_Bool (has_inode_bit v b)) [
+  | inl bit ↦ ap (λ x. is_valid (over v at) b && x) (bits_same v at b none agrees) ∙ ap (λ x. x && has_inode_bit v b) (valid_same v at b (agrees.same b (inode_bit_owned v b bit)))
+  | inr other ↦ and_right (is_valid (over v at) b) (has_inode_bit (over v at) b) (bits_same v at b none agrees ∙ other) ∙ sym (and_right (is_valid v b) (has_inode_bit v b) other)
 ]
 
 pub owned_tell_inodes : (v : Volume) (at : ℕ → List ℕ) → failing v ≡ [] → AgreesOnOwned v at → inodes_of (over v at) ≡ inodes_of v

@@ -17,7 +17,7 @@ use Rattle.o2_model.specs.Inodes.{kind, is_directory, is_directory_kind, is_file
 use Rattle.o2_model.specs.Directories.{Entry, directory_entries, is_dot, is_named, first_named, own_inodes}
 use Rattle.o2_model.specs.SystemFiles.{system_name, slot_in_name, system_inode, slots}
 use Rattle.o2_model.specs.Journals.{named_journal, journals}
-use Rattle.o2_model.specs.Groups.{is_inode}
+use Rattle.o2_model.specs.Groups.{has_inode_bit, is_inode}
 use Rattle.o2_model.specs.Checks.Sysdir.{is_sound_directory, sysdir_faults}
 use Rattle.o2_model.specs.Checks.Root.{is_sound_root, root_faults}
 use Rattle.o2_model.specs.Checks.Sysfile.{has_system_files, is_name_of_slot, has_kind_of_name, is_sound_system_entry, system_entries, sysfile_faults}
@@ -51,27 +51,37 @@ file_parts v h =
     (holds_unless v.geo.sysdir (has_system_files v) both.0, none_fails (λ e. e.inode) (is_sound_system_entry v) (system_entries v) both.1)
 
 -- ---- the two directories
-pub root_is_directory : (v : Volume) → failing v ≡ [] → is_directory v v.geo.root ≡ true
+root_parts : (v : Volume) → failing v ≡ [] → (is_valid v v.geo.root ≡ true) × (is_directory v v.geo.root ≡ true)
 unfolding is_sound_root
-root_is_directory v none = (and_parts (is_valid v v.geo.root) (is_directory v v.geo.root) (holds_unless v.geo.root (is_sound_root v) (root_holds v none))).1
+root_parts v none = and_parts (is_valid v v.geo.root) (is_directory v v.geo.root) (holds_unless v.geo.root (is_sound_root v) (root_holds v none))
+
+sysdir_parts : (v : Volume) → failing v ≡ [] → (is_valid v v.geo.sysdir ≡ true) × (is_directory v v.geo.sysdir ≡ true)
+unfolding is_sound_directory
+sysdir_parts v none =
+    let both = and_parts (is_valid v v.geo.sysdir && is_directory v v.geo.sysdir) _ (holds_unless v.geo.sysdir (is_sound_directory v v.geo.sysdir) (sysdir_holds v none)) in
+    and_parts (is_valid v v.geo.sysdir) (is_directory v v.geo.sysdir) both.0
+
+pub root_is_directory : (v : Volume) → failing v ≡ [] → is_directory v v.geo.root ≡ true
+root_is_directory v none = (root_parts v none).1
 
 pub sysdir_is_directory : (v : Volume) → failing v ≡ [] → is_directory v v.geo.sysdir ≡ true
-unfolding is_sound_directory
-sysdir_is_directory v none =
-    let both = and_parts (is_valid v v.geo.sysdir && is_directory v v.geo.sysdir) _ (holds_unless v.geo.sysdir (is_sound_directory v v.geo.sysdir) (sysdir_holds v none)) in
-    (and_parts (is_valid v v.geo.sysdir) (is_directory v v.geo.sysdir) both.0).1
+sysdir_is_directory v none = (sysdir_parts v none).1
 
-roots_are_inodes : (v : Volume) → has_system_files v ≡ true → (is_inode v v.geo.root ≡ true) × (is_inode v v.geo.sysdir ≡ true)
+directories_have_bits : (v : Volume) → has_system_files v ≡ true → (has_inode_bit v v.geo.root ≡ true) × (has_inode_bit v v.geo.sysdir ≡ true)
 unfolding has_system_files
-roots_are_inodes v h =
-    let both = and_parts _ (is_inode v v.geo.sysdir) h in
-    ((and_parts _ (is_inode v v.geo.root) both.0).1, both.1)
+directories_have_bits v h =
+    let both = and_parts _ (has_inode_bit v v.geo.sysdir) h in
+    ((and_parts _ (has_inode_bit v v.geo.root) both.0).1, both.1)
+
+valid_on_bit : (v : Volume) (b : ℕ) → is_valid v b ≡ true → has_inode_bit v b ≡ true → is_inode v b ≡ true
+unfolding is_inode
+valid_on_bit v b valid bit = and_from (is_valid v b) (has_inode_bit v b) valid bit
 
 pub root_is_inode : (v : Volume) → failing v ≡ [] → is_inode v v.geo.root ≡ true
-root_is_inode v none = (roots_are_inodes v (file_parts v (files_hold v none)).0).0
+root_is_inode v none = valid_on_bit v v.geo.root (root_parts v none).0 (directories_have_bits v (file_parts v (files_hold v none)).0).0
 
 pub sysdir_is_inode : (v : Volume) → failing v ≡ [] → is_inode v v.geo.sysdir ≡ true
-sysdir_is_inode v none = (roots_are_inodes v (file_parts v (files_hold v none)).0).1
+sysdir_is_inode v none = valid_on_bit v v.geo.sysdir (sysdir_parts v none).0 (directories_have_bits v (file_parts v (files_hold v none)).0).1
 
 -- ---- names
 dotless : (file : SystemFile) → (bytes_eq (system_name file) (codes ".") || bytes_eq (system_name file) (codes "..")) ≡ false

@@ -16,7 +16,7 @@ use Rattle.o2_model.specs.Volume.{Volume, dinode}
 use Rattle.o2_model.specs.Inodes.{is_directory, is_file}
 use Rattle.o2_model.specs.Directories.{Entry, named_entries, is_named}
 use Rattle.o2_model.specs.SystemFiles.{system_name, slot_in_name, system_inode, required_files, slot_files}
-use Rattle.o2_model.specs.Groups.{is_inode}
+use Rattle.o2_model.specs.Groups.{has_inode_bit, is_inode}
 use Rattle.o2_model.specs.RefcountTrees.{has_refcount}
 
 -- ---- what is there
@@ -25,7 +25,7 @@ is_there v file = option_map_or (λ b. true) (system_inode v file) false
 
 -- no file is missing, and the root and the system directory stand on bits
 unfoldable pub has_system_files : Volume → Bool
-has_system_files v = list_all (is_there v) (required_files v) && is_inode v v.geo.root && is_inode v v.geo.sysdir
+has_system_files v = list_all (is_there v) (required_files v) && has_inode_bit v v.geo.root && has_inode_bit v v.geo.sysdir
 
 -- ---- what a name asks for
 -- the entry has the name of such a file of a slot, whatever its number
