@@ -185,6 +185,13 @@ abbrev pub two_orphan_entries : ℕ → List ℕ
 two_orphan_entries =
     with_number_at 22 0x20 8 64 (with_number_at 22 248 8 32 (with_number_at 22 256 2 16 (with_number_at 22 258 2 0x101 (with_number_at 22 260 1 0x70 whole_block))))
 
+-- The orphan directory names inode 34 as well.
+abbrev pub two_orphans : ℕ → List ℕ
+two_orphans =
+    with_inode
+    (in_place_of 34 (dinode_with (record (plain_dinode 34) { flags = record { 0 = 0x5 } }) [])
+    (with_number_at 22 248 8 34 two_orphan_entries))
+
 -- ---- refcount trees
 -- The root in block 42 names one leaf block, 44, which has the record.
 abbrev pub leaf_refcount_blocks : ℕ → List ℕ

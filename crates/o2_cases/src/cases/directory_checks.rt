@@ -4,7 +4,7 @@ ghost use Rattle.std.specs.Prelude.{◌≡◌, [], ◌∷◌};
 ghost use Rattle.o2_model.specs.declared.check.Check.TheVariants as check;
 ghost use Rattle.o2_model.specs.Failing.{failing};
 ghost use Rattle.o2_cases.specs.WholeVolume.{volume_with, whole_block, with_number, with_number_at};
-ghost use Rattle.o2_cases.specs.OtherVolumes.{changed, two_directory_blocks, two_orphan_entries, upper_and_lower_name};
+ghost use Rattle.o2_cases.specs.OtherVolumes.{changed, two_directory_blocks, two_orphan_entries, two_orphans, upper_and_lower_name};
 
 /// A law: entries fill a directory's block; a block that they do not fill has none. Names are names, and each stands there once.
 pub fn wrong_entries()
@@ -84,6 +84,7 @@ pub fn wrong_names_of_inodes()
 
 /// A law: an orphan directory names inodes that are orphans, none of the volume's own, and each once.
 pub fn wrong_orphan_entries()
+    ensures two { failing (volume_with two_orphans) ≡ [] }
     ensures again { failing (volume_with two_orphan_entries) ≡ (check.OrphanEntry, 22) ∷ [] }
     ensures void_again { failing (changed two_orphan_entries 22 248 8 0) ≡ [] }
     ensures own { failing (volume_with (with_number_at 21 0x2c 4 0x15 (with_number_at 22 232 8 21 whole_block)))

@@ -27,6 +27,7 @@ pub fn wrong_leaf_links()
     ensures next { failing (with_number 41 0x28 8 42) ≡ (check.EbNext, 41) ∷ [] }
     ensures last { failing (with_number 29 0x58 8 0) ≡ (check.LastEb, 29) ∷ [] }
     ensures none { failing (with_number 30 0x58 8 41) ≡ (check.LastEb, 30) ∷ [] }
+    ensures no_list { failing (with_number 18 0x58 8 41) ≡ [] }
 {}
 
 /// A law: a link has a text, a directory whole blocks, all mapped, and inline data fits its room; a file may end where it will.
@@ -79,6 +80,7 @@ pub fn wrong_sizes_of_directories()
         ≡ (check.InodeSize, 28) ∷ (check.DirBlock, 73) ∷ (check.DirBlock, 74) ∷ (check.DirBlock, 75) ∷ (check.DirBlock, 76) ∷ (check.DirBlock, 77)
         ∷ (check.DirBlock, 78) ∷ (check.DirBlock, 79) ∷ (check.Dx, 28) ∷ (check.BlockAllocBit, 40) ∷ [] }
     ensures small_room { failing (with_number 18 0xc0 2 111) ≡ (check.InodeSize, 18) ∷ [] }
+    ensures behind_small_room { failing (volume_with (with_number_at 18 0xc0 2 111 (with_number_at 18 0xc2 1 1 whole_block))) ≡ (check.InodeSize, 18) ∷ [] }
     ensures behind_dinode { failing (volume_with (with_number_at 18 0x20 8 320 (with_number_at 18 304 2 216 whole_block)))
         ≡ (check.InodeSize, 18) ∷ (check.DirBlock, 18) ∷ (check.NotConnected, 28) ∷ (check.NotConnected, 29) ∷ (check.NotConnected, 30)
         ∷ (check.NotConnected, 31) ∷ (check.NotConnected, 33) ∷ (check.InodeCount, 18) ∷ [] }

@@ -23,6 +23,7 @@ pub fn wrong_trees()
 pub fn wrong_refcounts()
     ensures wide_record { failing (with_number 42 0x98 4 2) ≡ (check.RefCover, 42) ∷ [] }
     ensures another_cluster { failing (with_number 42 0x90 8 12) ≡ (check.RefCover, 42) ∷ [] }
+    ensures further_cluster { failing (volume_with (with_number_at 42 0x82 2 2 (with_number_at 42 0xa0 8 13 (with_number_at 42 0xa8 8 0x1_0000_0001 whole_block)))) ≡ (check.RefCover, 42) ∷ [] }
     ensures count { failing (with_number 42 0x9c 4 3) ≡ (check.RefCount, 42) ∷ [] }
     ensures users { failing (with_number 42 0x30 4 1) ≡ (check.RefUsers, 42) ∷ [] }
 {}

@@ -3,6 +3,7 @@ ghost use Rattle.std.specs.Prelude.{◌≡◌, [], ◌∷◌, true, false, codes
 ghost use Rattle.o2_model.specs.declared.check.Check.TheVariants as check;
 ghost use Rattle.o2_model.specs.Failing.{failing};
 ghost use Rattle.o2_model.specs.Checks.Root.{is_sound_root};
+ghost use Rattle.o2_model.specs.Checks.SlotMap.{is_sound_slot_map, slot_entry_size};
 ghost use Rattle.o2_model.specs.Checks.Super.{super_faults};
 ghost use Rattle.o2_cases.specs.WholeVolume.{volume_with, whole, whole_block, whole_geo, with_number, with_number_at};
 ghost use Rattle.o2_cases.specs.OtherVolumes.{changed, directory_blocks, with_system_entry, with_system_file};
@@ -143,4 +144,14 @@ pub fn wrong_superblocks()
     ensures first_group { super_faults (record whole { geo = record whole_geo { first_group = 9 } }) ≡ 2 ∷ [] }
     ensures device { super_faults (record whole { on_device = 127 }) ≡ 2 ∷ [] }
     ensures directories { super_faults (record whole { geo = record whole_geo { root = 17 } }) ≡ 2 ∷ [] }
+{}
+
+/// A law: an entry of the slot map has 8 bytes where it is extended, else 2, and the map's clusters have room for the entry of each slot.
+pub fn sizes_of_slot_maps()
+    ensures extended { slot_entry_size (record whole { geo = record whole_geo { incompat = 0x100 } }) ≡ 8 }
+    ensures plain { slot_entry_size (record whole { geo = record whole_geo { incompat = 0xfeff } }) ≡ 2 }
+    ensures full { is_sound_slot_map (record whole { geo = record whole_geo { slots = 512 } }) 21 ≡ true }
+    ensures short { is_sound_slot_map (record whole { geo = record whole_geo { slots = 513 } }) 21 ≡ false }
+    ensures full_plain { is_sound_slot_map (record whole { geo = record whole_geo { slots = 2048; incompat = 0 } }) 21 ≡ true }
+    ensures short_plain { is_sound_slot_map (record whole { geo = record whole_geo { slots = 2049; incompat = 0 } }) 21 ≡ false }
 {}

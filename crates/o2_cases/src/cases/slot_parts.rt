@@ -4,7 +4,7 @@ ghost use Rattle.o2_model.specs.declared.claim.Owner.TheVariants.{LocalAlloc, Tr
 ghost use Rattle.o2_model.specs.Checks.LocalAlloc.{local_alloc_faults};
 ghost use Rattle.o2_model.specs.Checks.TruncateLog.{truncate_log_faults};
 ghost use Rattle.o2_model.specs.Claims.{claims_of, owner_in};
-ghost use Rattle.o2_model.specs.Slots.{is_sound_truncate_header, is_sound_truncation, is_sound_window, is_sound_window_size, truncated_clusters, window_clusters};
+ghost use Rattle.o2_model.specs.Slots.{is_sound_truncate_header, is_sound_truncation, is_sound_window, is_sound_window_size, total_of, truncated_clusters, used_of, window_clusters};
 ghost use Rattle.o2_ondisk.specs.Fields.{put_at};
 ghost use Rattle.o2_cases.specs.SmallBytes.{zero_bytes};
 ghost use Rattle.o2_cases.specs.SmallVolumes.{small};
@@ -29,6 +29,12 @@ pub fn truncate_logs_on_cases()
     ensures full { is_sound_truncate_header (with_truncate_log 39 39) 40 ≡ true }
     ensures large_count { is_sound_truncate_header (with_truncate_log 40 1) 40 ≡ false }
     ensures large_use { is_sound_truncate_header (with_truncate_log 3 4) 40 ≡ false }
+{}
+
+/// A law: of the eight bytes that an allocator and a window have for their totals the first four are i_used, and the others i_total.
+pub fn totals_on_cases()
+    ensures used { used_of (record { 0 = 0x9000_0002_8000_0001 }) ≡ 0x8000_0001 }
+    ensures total { total_of (record { 0 = 0x9000_0002_8000_0001 }) ≡ 0x9000_0002 }
 {}
 
 /// A law: the bitmap of a window fits its dinode, here with 304 bytes. A window of 4 clusters from cluster 20 on, of which the

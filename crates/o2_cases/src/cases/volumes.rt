@@ -1,9 +1,9 @@
 // What is read of a whole volume, and that nothing on it fails.
-ghost use Rattle.std.specs.Prelude.{◌≡◌, ℕ, [], ◌∷◌, ◌++◌, Some, None, true, false, map, length, take, codes};
+ghost use Rattle.std.specs.Prelude.{◌≡◌, ℕ, [], ◌∷◌, ◌++◌, Some, None, true, false, map, length, take, drop, codes};
 ghost use Rattle.o2_model.specs.declared.oddity.Oddity.TheVariants.{Attributes, DioOrphan, DiscontiguousGroup};
 ghost use Rattle.o2_model.specs.declared.system_file.SlotFile.TheVariants.{Journal};
 ghost use Rattle.o2_model.specs.declared.system_file.SystemFile.TheVariants.{GlobalBitmap, Heartbeat, OfSlot};
-ghost use Rattle.o2_model.specs.declared.claim.Owner.TheVariants.{Inode, LocalAlloc, Suballocator, Super, TruncateLog};
+ghost use Rattle.o2_model.specs.declared.claim.Owner.TheVariants.{Index, Inode, LocalAlloc, Suballocator, Super, TruncateLog};
 ghost use Rattle.o2_model.specs.SystemFiles.{slot_in_name, system_inode};
 ghost use Rattle.o2_model.specs.Allocators.{allocators};
 ghost use Rattle.o2_model.specs.Groups.{group_walk, groups_of, inodes_of, is_inode};
@@ -116,6 +116,8 @@ pub fn claims_of_whole()
         ++ claims_by (Inode 21) (6 ∷ []) ++ claims_by (Inode 25) (7 ∷ []) ++ claims_by (Inode 28) (9 ∷ [])
         ++ claims_by (Inode 29) (10 ∷ 13 ∷ []) ++ claims_by (Inode 30) (11 ∷ []) ++ claims_by (Inode 31) (11 ∷ []) ++ claims_by (Inode 32) (8 ∷ [])
         ++ claims_by (LocalAlloc 0) (14 ∷ []) ++ claims_by (TruncateLog 0) (12 ∷ []) }
+    ensures with_index { drop 14 (claims_of (volume_with leaf_index_blocks))
+        ≡ claims_by (Index 28) (15 ∷ []) ++ claims_by (LocalAlloc 0) (14 ∷ []) ++ claims_by (TruncateLog 0) (12 ∷ []) }
     ensures first { owner_in (claims_of whole) 11 ≡ Some (Inode 30) }
     ensures free { owner_in (claims_of whole) 15 ≡ None }
 {}
