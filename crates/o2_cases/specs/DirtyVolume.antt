@@ -1,14 +1,13 @@
 -- The whole volume with a dirty journal, whose log has one transaction in blocks 57 to 59.
 use Rattle.std.specs.Prelude.{ℕ, ◌==◌, List, [], ◌++◌, codes, if◌then◌else◌}
 use Rattle.o2_ondisk.specs.Fields.{put_at}
-use Rattle.o2_model.specs.Logs.{descriptor_type}
 use Rattle.o2_model.specs.Volume.{Volume}
 use Rattle.o2_cases.specs.OtherVolumes.{in_place_of, with_system_entry}
 use Rattle.o2_cases.specs.SmallBytes.{zero_bytes}
 use Rattle.o2_cases.specs.SmallEntries.{dots}
 use Rattle.o2_cases.specs.SmallVolumes.{small_at, small_geo}
 use Rattle.o2_cases.specs.SmallFiles.{one_record, record_of}
-use Rattle.o2_cases.specs.SmallLogs.{commit, header_bytes, one_tag_of, tag_bytes}
+use Rattle.o2_cases.specs.SmallLogs.{commit, header_bytes, one_tag_of, revoke_of, tag_bytes}
 use Rattle.o2_cases.specs.WholeInodes.{dinode_with, inline_directory, inline_entries, one_cluster, own_dinode}
 use Rattle.o2_cases.specs.WholeVolume.{volume_with, whole_block, whole_geo, whole_journal_super, whole_super, with_number_at}
 
@@ -51,11 +50,18 @@ stopped_block target bytes b = if b == target then bytes else logging_block targ
 -- The log has two writes of one descriptor.
 abbrev pub logging_both : ℕ → List ℕ → ℕ → List ℕ → ℕ → List ℕ
 logging_both first bytes second further b =
-    if b == 57 then header_bytes descriptor_type 9 ++ tag_bytes first 0x2 ++ tag_bytes second 0xa
+    if b == 57 then header_bytes 1 9 ++ tag_bytes first 0x2 ++ tag_bytes second 0xa
     else if b == 58 then bytes
     else if b == 59 then further
     else if b == 60 then commit 9
     else logging_block first bytes b
+
+-- A second transaction of the log revokes the write of the first.
+abbrev pub revoking_block : ℕ → List ℕ → ℕ → List ℕ
+revoking_block target bytes b =
+    if b == 60 then revoke_of target 10
+    else if b == 61 then commit 10
+    else logging_block target bytes b
 
 -- The log begins the journal's block 6, and goes on in its block 1 behind its last one.
 abbrev pub wrapping_block : ℕ → List ℕ → ℕ → List ℕ
@@ -69,7 +75,7 @@ wrapping_block target bytes b =
 -- The log has three writes of one descriptor.
 abbrev pub logging_three : ℕ → List ℕ → ℕ → List ℕ → ℕ → List ℕ → ℕ → List ℕ
 logging_three first bytes second further third last b =
-    if b == 57 then header_bytes descriptor_type 9 ++ tag_bytes first 0x2 ++ tag_bytes second 0x2 ++ tag_bytes third 0xa
+    if b == 57 then header_bytes 1 9 ++ tag_bytes first 0x2 ++ tag_bytes second 0x2 ++ tag_bytes third 0xa
     else if b == 58 then bytes
     else if b == 59 then further
     else if b == 60 then last

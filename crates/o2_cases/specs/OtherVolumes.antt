@@ -180,6 +180,12 @@ upper_and_lower_name =
     (with_number_at 29 0x2a 2 1
     whole_block)))))
 
+-- Directory 28 has the eight blocks of cluster 9, and behind a hole of one cluster the first two of cluster 15.
+abbrev pub far_directory_blocks : ℕ → List ℕ
+far_directory_blocks =
+    with_number_at 28 0x20 8 9216
+    (with_number_at 28 0xc4 2 2 (with_number_at 28 0xe0 8 0x1_0000_0002 (with_number_at 28 0xe8 8 120 whole_block)))
+
 -- two entries of inode 32 in the orphan directory
 abbrev pub two_orphan_entries : ℕ → List ℕ
 two_orphan_entries =

@@ -9,6 +9,7 @@ pub fn has_entry_on_cases()
     ensures fills { has_entry (live_bytes 16) ≡ true }
     ensures no_length { has_entry (live_bytes 0) ≡ false }
     ensures odd { has_entry (live_bytes 14) ≡ false }
+    ensures short { has_entry (void_bytes 8) ≡ false }
     ensures crossing { has_entry (live_bytes 20) ≡ false }
     ensures long_name { has_entry (entry_bytes 7 16 5 name_bytes) ≡ false }
     ensures long_void_name { has_entry (entry_bytes 0 16 5 name_bytes) ≡ true }

@@ -1,11 +1,17 @@
 // Extents on single cases.
 ghost use Rattle.std.specs.Prelude.{◌≡◌, [], ◌∷◌, true, false};
-ghost use Rattle.o2_model.specs.Extents.{is_sound_header, is_sound_leaf};
+ghost use Rattle.o2_model.specs.Extents.{is_sound_header, is_sound_leaf, leaf_clusters, leaf_flags};
 ghost use Rattle.o2_model.specs.Inodes.{leaf_records};
 ghost use Rattle.o2_model.specs.Checks.Extent.{extent_faults};
 ghost use Rattle.o2_model.specs.Contents.{byte_in_block};
 ghost use Rattle.o2_cases.specs.SmallVolumes.{small};
 ghost use Rattle.o2_cases.specs.SmallFiles.{file_of, overlapping_records, record_of, records_with_hole};
+
+/// A law: of the four bytes behind e_cpos a leaf record has its clusters in the first two, and its flags in the last.
+pub fn sizes_of_records()
+    ensures clusters { leaf_clusters (record { cpos = 0; size = record { 0 = 0x0301_8001 }; blkno = 0 }) ≡ 0x8001 }
+    ensures flags { leaf_flags (record { cpos = 0; size = record { 0 = 0x8301_8001 }; blkno = 0 }) ≡ 0x83 }
+{}
 
 /// A law: the head of a list fits the room for its records, and the tree is at most 5 deep.
 pub fn headers_on_cases()

@@ -4,13 +4,14 @@ ghost use Rattle.o2_model.specs.Dirty.{bytes_after};
 ghost use Rattle.o2_model.specs.Journals.{has_sound_bounds};
 ghost use Rattle.byteorder.specs.Endian.{big_bytes};
 ghost use Rattle.o2_ondisk.specs.Fields.{put_at};
-ghost use Rattle.o2_model.specs.Logs.{descriptor_type, no_writes, read_log, revoke_type, revokes_of, tags_of};
-ghost use Rattle.o2_cases.specs.SmallLogs.{bounds, commit, header_bytes, identifier, one_tag, one_tag_of, revoke, tag_bytes, two_tags};
+ghost use Rattle.o2_model.specs.Logs.{no_writes, read_log, revokes_of, tags_of, unrevoked};
+ghost use Rattle.o2_cases.specs.SmallLogs.{bounds, commit, header_bytes, identifier, one_tag, one_tag_of, revoke, tag_bytes, telling, two_tags, write_of};
 
 /// A law: the tags of a descriptor go up to the last one, with or without an identifier between them.
 pub fn tags_on_cases()
     ensures one { tags_of false (one_tag 9) ≡ record { block = 7; is_escaped = false } ∷ [] }
     ensures two { tags_of false (two_tags 9) ≡ record { block = 7; is_escaped = false } ∷ record { block = 8; is_escaped = true } ∷ [] }
+    ensures first_escaped { tags_of false (header_bytes 1 9 ++ tag_bytes 7 0x1 ++ identifier ++ tag_bytes 8 0xa) ≡ record { block = 7; is_escaped = true } ∷ record { block = 8; is_escaped = false } ∷ [] }
     ensures revoked { revokes_of false (revoke 9) ≡ 7 ∷ [] }
 {}
 
@@ -29,6 +30,16 @@ pub fn transactions_on_cases()
     ensures revoked_later { read_log false 0xffff_ffff no_writes [] (one_tag 0xffff_ffff ∷ (1 ∷ 2 ∷ []) ∷ commit 0xffff_ffff ∷ revoke 0 ∷ commit 0 ∷ [])
         ≡ record { writes = record { block = 7; bytes = 1 ∷ 2 ∷ [] } ∷ []; revoked = [] }
         ∷ record { writes = []; revoked = 7 ∷ [] } ∷ [] }
+{}
+
+/// A law: a revoke suppresses the writes of its block in its own transaction and in all earlier ones, and in no later one. What is left stays
+/// in the order of the log.
+pub fn revokes_on_cases()
+    ensures none { unrevoked (telling (7 ∷ 8 ∷ []) [] ∷ telling (7 ∷ []) [] ∷ []) ≡ write_of 7 ∷ write_of 8 ∷ write_of 7 ∷ [] }
+    ensures own { unrevoked (telling (7 ∷ 8 ∷ []) (7 ∷ []) ∷ []) ≡ write_of 8 ∷ [] }
+    ensures earlier { unrevoked (telling (7 ∷ 8 ∷ []) [] ∷ telling (9 ∷ []) (6 ∷ 7 ∷ []) ∷ []) ≡ write_of 8 ∷ write_of 9 ∷ [] }
+    ensures long_before { unrevoked (telling (7 ∷ []) [] ∷ telling [] [] ∷ telling [] (7 ∷ []) ∷ []) ≡ [] }
+    ensures later { unrevoked (telling (9 ∷ []) (7 ∷ []) ∷ telling (7 ∷ []) [] ∷ []) ≡ write_of 9 ∷ write_of 7 ∷ [] }
 {}
 
 /// A law: after some writes a block has the bytes of its last one, and its own where there is none.
@@ -50,27 +61,27 @@ pub fn bounds_on_cases()
 
 /// A law: tags go on as far as whole ones fit, also where an identifier does not. What DELETED (4) says is not looked at.
 pub fn ends_of_tags()
-    ensures part_behind { tags_of false (header_bytes descriptor_type 9 ++ tag_bytes 7 0x2 ++ 0 ∷ 0 ∷ 0 ∷ 8 ∷ 0 ∷ 0 ∷ 0 ∷ []) ≡ record { block = 7; is_escaped = false } ∷ [] }
-    ensures no_identifier { tags_of false (header_bytes descriptor_type 9 ++ tag_bytes 7 0) ≡ record { block = 7; is_escaped = false } ∷ [] }
-    ensures none { tags_of false (header_bytes descriptor_type 9) ≡ [] }
-    ensures deleted { tags_of false (header_bytes descriptor_type 9 ++ tag_bytes 7 0x6 ++ tag_bytes 8 0xe) ≡ record { block = 7; is_escaped = false } ∷ record { block = 8; is_escaped = false } ∷ [] }
-    ensures behind_last { tags_of false (header_bytes descriptor_type 9 ++ tag_bytes 7 0xa ++ tag_bytes 8 0xa) ≡ record { block = 7; is_escaped = false } ∷ [] }
+    ensures part_behind { tags_of false (header_bytes 1 9 ++ tag_bytes 7 0x2 ++ 0 ∷ 0 ∷ 0 ∷ 8 ∷ 0 ∷ 0 ∷ 0 ∷ []) ≡ record { block = 7; is_escaped = false } ∷ [] }
+    ensures no_identifier { tags_of false (header_bytes 1 9 ++ tag_bytes 7 0) ≡ record { block = 7; is_escaped = false } ∷ [] }
+    ensures none { tags_of false (header_bytes 1 9) ≡ [] }
+    ensures deleted { tags_of false (header_bytes 1 9 ++ tag_bytes 7 0x6 ++ tag_bytes 8 0xe) ≡ record { block = 7; is_escaped = false } ∷ record { block = 8; is_escaped = false } ∷ [] }
+    ensures behind_last { tags_of false (header_bytes 1 9 ++ tag_bytes 7 0xa ++ tag_bytes 8 0xa) ≡ record { block = 7; is_escaped = false } ∷ [] }
 {}
 
 /// A law: with 64BIT a tag has 12 bytes, a number in a revoke block has 8, and the higher half is behind the flags.
 pub fn wide_tags_on_cases()
-    ensures two { tags_of true (header_bytes descriptor_type 9 ++ tag_bytes 7 0 ++ big_bytes 4 1 ++ identifier ++ tag_bytes 8 0xb ++ big_bytes 4 0)
+    ensures two { tags_of true (header_bytes 1 9 ++ tag_bytes 7 0 ++ big_bytes 4 1 ++ identifier ++ tag_bytes 8 0xb ++ big_bytes 4 0)
         ≡ record { block = 4294967303; is_escaped = false } ∷ record { block = 8; is_escaped = true } ∷ [] }
-    ensures part_behind { tags_of true (header_bytes descriptor_type 9 ++ tag_bytes 7 0x2 ++ big_bytes 4 0 ++ tag_bytes 8 0xa) ≡ record { block = 7; is_escaped = false } ∷ [] }
-    ensures revoked { revokes_of true (header_bytes revoke_type 9 ++ big_bytes 4 32 ++ big_bytes 8 7 ++ big_bytes 8 4294967303) ≡ 7 ∷ 4294967303 ∷ [] }
-    ensures part_revoked { revokes_of true (header_bytes revoke_type 9 ++ big_bytes 4 31 ++ big_bytes 8 7 ++ big_bytes 8 8) ≡ 7 ∷ [] }
+    ensures part_behind { tags_of true (header_bytes 1 9 ++ tag_bytes 7 0x2 ++ big_bytes 4 0 ++ tag_bytes 8 0xa) ≡ record { block = 7; is_escaped = false } ∷ [] }
+    ensures revoked { revokes_of true (header_bytes 5 9 ++ big_bytes 4 32 ++ big_bytes 8 7 ++ big_bytes 8 4294967303) ≡ 7 ∷ 4294967303 ∷ [] }
+    ensures part_revoked { revokes_of true (header_bytes 5 9 ++ big_bytes 4 31 ++ big_bytes 8 7 ++ big_bytes 8 8) ≡ 7 ∷ [] }
 {}
 
 /// A law: the numbers of a revoke block lie whole below its count and within it.
 pub fn revoke_blocks_on_cases()
-    ensures part { revokes_of false (header_bytes revoke_type 9 ++ big_bytes 4 23 ++ big_bytes 4 7 ++ big_bytes 4 8) ≡ 7 ∷ [] }
-    ensures large_count { revokes_of false (header_bytes revoke_type 9 ++ big_bytes 4 100 ++ big_bytes 4 7) ≡ 7 ∷ [] }
-    ensures small_count { revokes_of false (header_bytes revoke_type 9 ++ big_bytes 4 0 ++ big_bytes 4 7) ≡ [] }
+    ensures part { revokes_of false (header_bytes 5 9 ++ big_bytes 4 23 ++ big_bytes 4 7 ++ big_bytes 4 8) ≡ 7 ∷ [] }
+    ensures large_count { revokes_of false (header_bytes 5 9 ++ big_bytes 4 100 ++ big_bytes 4 7) ≡ 7 ∷ [] }
+    ensures small_count { revokes_of false (header_bytes 5 9 ++ big_bytes 4 0 ++ big_bytes 4 7) ≡ [] }
 {}
 
 /// A law: a commit alone is a transaction, where it has the magic. A transaction may have several descriptors and revokes, in any order, and
@@ -83,6 +94,7 @@ pub fn parts_of_transactions()
     ensures logged_commit { read_log false 9 no_writes [] (one_tag 9 ∷ commit 9 ∷ commit 9 ∷ [])
         ≡ record { writes = record { block = 7; bytes = commit 9 } ∷ []; revoked = [] } ∷ [] }
     ensures next_number { read_log false 9 no_writes [] (commit 9 ∷ commit 9 ∷ []) ≡ no_writes ∷ [] }
+    ensures large_number { read_log false 0x7fff_ffff no_writes [] (commit 0x7fff_ffff ∷ commit 0x8000_0000 ∷ []) ≡ no_writes ∷ no_writes ∷ [] }
     ensures second_descriptor_of_another { read_log false 9 no_writes [] (one_tag 9 ∷ (1 ∷ []) ∷ one_tag 10 ∷ (2 ∷ []) ∷ commit 9 ∷ []) ≡ [] }
     ensures superblock_type { read_log false 9 no_writes [] (header_bytes 4 9 ∷ commit 9 ∷ []) ≡ [] }
 {}

@@ -6,7 +6,7 @@ ghost use Rattle.o2_model.specs.Anchors.{anchors_of, is_allowed_write, log_fault
 ghost use Rattle.o2_model.specs.Dirty.{as_logged, committed_writes, dirty_slots, journal_fault, slot_journal};
 ghost use Rattle.o2_model.specs.Journals.{journals};
 ghost use Rattle.o2_model.specs.Replay.{as_clean};
-ghost use Rattle.o2_cases.specs.DirtyVolume.{journal_dinode, logging, logging_block, logging_both, logging_slots, logging_with, of_two_slots, two_sectors, with_two_sectors, wrapping_block};
+ghost use Rattle.o2_cases.specs.DirtyVolume.{journal_dinode, logging, logging_block, logging_both, logging_slots, logging_with, of_two_slots, revoking_block, two_sectors, with_two_sectors, wrapping_block};
 ghost use Rattle.o2_cases.specs.OtherVolumes.{directory_block, directory_blocks, directory_in_cluster, in_place_of};
 ghost use Rattle.o2_cases.specs.WholeVolume.{filled, volume_with, whole, whole_block, whole_super, with_number_at};
 
@@ -16,6 +16,7 @@ pub fn dirty_slots_on_cases()
     ensures clean { dirty_slots whole ≡ [] }
     ensures dirty { dirty_slots (logging 88 (codes "world")) ≡ 0 ∷ [] }
     ensures no_journal { dirty_slots (logging_with 88 (codes "world") 25 0x2c 4 0x11) ≡ [] }
+    ensures no_dinode { dirty_slots (logging_with 88 (codes "world") 25 0x60 4 6) ≡ [] }
     ensures journal { slot_journal whole 0 ≡ Some 25 }
     ensures no_slot { slot_journal whole 1 ≡ None }
 {}
@@ -33,6 +34,8 @@ pub fn journal_faults_on_cases()
 pub fn writes_of_logs_on_cases()
     ensures written { committed_writes (logging 88 (codes "world")) 0 ≡ record { block = 88; bytes = filled (codes "world") } ∷ [] }
     ensures no_log { committed_writes whole 0 ≡ [] }
+    ensures revoked { committed_writes (volume_with (revoking_block 88 (codes "world"))) 0 ≡ [] }
+    ensures revoked_harm { log_fault (volume_with (revoking_block 60 [])) ≡ None }
     ensures new_bytes { take 5 ((as_logged (logging 88 (codes "world"))).at 88) ≡ codes "world" }
     ensures old_bytes { take 5 ((as_logged whole).at 88) ≡ codes "hello" }
 {}
@@ -80,6 +83,8 @@ pub fn clean_journals_on_cases()
     ensures dirty { as_clean (journal_dinode 1 56) ≡ journal_dinode 0 56 }
     ensures other_bits { as_clean (journal_dinode 3 56) ≡ journal_dinode 2 56 }
     ensures clean { as_clean (journal_dinode 0 56) ≡ journal_dinode 0 56 }
+    ensures all_bits { as_clean (journal_dinode 0xffff_ffff_ffff_ffff 56) ≡ journal_dinode 0xffff_ffff_ffff_fffe 56 }
+    ensures generation { as_clean (journal_dinode 0xffff_ffff_ffff_fffe 56) ≡ journal_dinode 0xffff_ffff_ffff_fffe 56 }
 {}
 
 /// A law: the flags of a dirty journal's records are not looked at, as far as EXTENT knows them, but its extents are, and they come before its superblock, and that before
@@ -94,6 +99,7 @@ pub fn faults_in_order()
     ensures extents_first { journal_fault (volume_with (with_number_at 25 0xd0 4 1 (with_number_at 56 0x1f 1 8 (logging_block 88 [])))) ≡ Some (0, Extents) }
     ensures compatible { journal_fault (logging_with 88 (codes "world") 56 0x27 1 1) ≡ Some (0, Features) }
     ensures two_features { journal_fault (logging_with 88 (codes "world") 56 0x2b 1 3) ≡ None }
+    ensures third_feature { journal_fault (logging_with 88 (codes "world") 56 0x2b 1 4) ≡ Some (0, Features) }
 {}
 
 /// A law: a log begins where its superblock says, with the number that this says, and goes on behind the journal's last block at the first

@@ -9,7 +9,7 @@ ghost use Rattle.o2_model.specs.Allocators.{allocators};
 ghost use Rattle.o2_model.specs.Groups.{group_walk, groups_of, inodes_of, is_inode};
 ghost use Rattle.o2_model.specs.Inodes.{extent_blocks_of, records_of};
 ghost use Rattle.o2_model.specs.Contents.{content_of};
-ghost use Rattle.o2_model.specs.Directories.{directory_entries};
+ghost use Rattle.o2_model.specs.Directories.{dir_blocks, directory_entries};
 ghost use Rattle.o2_model.specs.Contents.Content.{Bytes, Entries, Nothing};
 ghost use Rattle.o2_model.specs.Tree.{inode_at, is_met, link_count, met_inodes, tree_directories, tree_inodes, tree_walk};
 ghost use Rattle.o2_model.specs.Intact.{intact_paths, is_intact};
@@ -23,7 +23,7 @@ ghost use Rattle.o2_model.specs.Owned.{is_owned, owned_blocks};
 ghost use Rattle.o2_model.specs.Structures.{unsupported_structure};
 ghost use Rattle.o2_model.specs.Failing.{failing};
 ghost use Rattle.o2_cases.specs.SmallFiles.{record_of};
-ghost use Rattle.o2_cases.specs.OtherVolumes.{changed, leaf_index_blocks, two_directory_blocks};
+ghost use Rattle.o2_cases.specs.OtherVolumes.{changed, far_directory_blocks, leaf_index_blocks, two_chain_blocks, two_directory_blocks};
 ghost use Rattle.o2_cases.specs.WholeVolume.{volume_with, whole, whole_block, whole_geo, with_number, with_number_at};
 
 /// A law: nothing fails on the whole volume, and it has no structure outside the profile.
@@ -37,6 +37,8 @@ pub fn whole_volume_is_sound()
 pub fn odd_structures_on_cases()
     ensures group { unsupported_structure (volume_with (with_number_at 16 0x8 2 256 (with_number_at 16 0x144 2 1 whole_block))) ≡ Some (DiscontiguousGroup, 16) }
     ensures no_list { unsupported_structure (with_number 16 0x8 2 256) ≡ None }
+    ensures room { unsupported_structure (volume_with (with_number_at 16 0x8 2 256 (with_number_at 16 0x142 2 0x100 whole_block))) ≡ None }
+    ensures least { unsupported_structure (volume_with (with_number_at 40 0x8 2 256 (with_number_at 40 0x144 2 1 (with_number_at 120 0x8 2 256 (with_number_at 120 0x144 2 1 two_chain_blocks))))) ≡ Some (DiscontiguousGroup, 40) }
     ensures attributes { unsupported_structure (with_number 30 0x76 2 0x12) ≡ Some (Attributes, 30) }
     ensures direct_write { unsupported_structure (with_number 32 0x2c 4 0x2005) ≡ Some (DioOrphan, 32) }
 {}
@@ -46,6 +48,7 @@ pub fn groups_of_whole()
     ensures named { system_inode whole GlobalBitmap ≡ Some 19 }
     ensures not_named { system_inode whole Heartbeat ≡ None }
     ensures allocators { map (λ a. a.block) (allocators whole) ≡ 19 ∷ 20 ∷ 23 ∷ 24 ∷ [] }
+    ensures no_dinode { map (λ a. a.block) (allocators (with_number 23 0x0 8 0)) ≡ 19 ∷ 20 ∷ 24 ∷ [] }
     ensures groups { map (λ g. g.block) (group_walk whole).groups ≡ 8 ∷ 16 ∷ 40 ∷ [] }
     ensures of_inodes { map (λ g. g.bits) (groups_of whole 20) ≡ 24 ∷ [] }
     ensures of_none { groups_of whole 24 ≡ [] }
@@ -179,6 +182,8 @@ pub fn wrong_inodes_are_not_intact()
     ensures second_owner { is_intact (with_number 32 0xd8 8 80) (codes "f" ∷ []) ≡ false }
     ensures another { is_intact (with_number 32 0xd8 8 80) (codes "a" ∷ []) ≡ true }
     ensures shared_block { is_intact (with_number 31 0x90 8 41) (codes "f" ∷ []) ≡ false }
+    ensures dots { is_intact (with_number 72 28 2 0x7878) (codes "d" ∷ []) ≡ false }
+    ensures others { intact_paths (with_number 72 28 2 0x7878) ≡ [] ∷ (codes "f" ∷ []) ∷ (codes "a" ∷ []) ∷ (codes "b" ∷ []) ∷ (codes "l" ∷ []) ∷ [] }
     ensures name { is_intact (with_number 18 260 1 0x2f) (codes "a" ∷ []) ≡ false }
     ensures namesake { is_intact (with_number 18 292 1 0x61) (codes "l" ∷ []) ≡ false }
     ensures tree { is_intact (with_number 42 0x82 2 2) (codes "a" ∷ []) ≡ false }
@@ -210,6 +215,7 @@ pub fn places_of_entries()
     ensures in_block { map {B = ℕ × ℕ} (λ e. (e.block, e.at)) (directory_entries whole 28) ≡ (72, 0) ∷ (72, 16) ∷ (72, 32) ∷ [] }
     ensures inline { map {B = ℕ × ℕ} (λ e. (e.block, e.at)) (directory_entries whole 22) ≡ (22, 0) ∷ (22, 16) ∷ (22, 32) ∷ [] }
     ensures behind_void { map {B = ℕ × ℕ} (λ e. (e.inode, e.at)) (directory_entries (with_number 22 216 8 0) 22) ≡ (22, 0) ∷ (32, 32) ∷ [] }
+    ensures behind_hole { map {B = ℕ × ℕ} (λ b. (b.place, b.block)) (drop 6 (dir_blocks (volume_with far_directory_blocks) 28)) ≡ (6, 78) ∷ (7, 79) ∷ (16, 120) ∷ (17, 121) ∷ [] }
     ensures second_block { map {B = ℕ × ℕ} (λ e. (e.block, e.at)) (directory_entries (volume_with two_directory_blocks) 28) ≡ (72, 0) ∷ (72, 16) ∷ (72, 32) ∷ (73, 0) ∷ [] }
     ensures namesakes { inode_at (with_number 18 292 1 0x61) (codes "a" ∷ []) ≡ Some 30 }
     ensures at_paths { tree_inodes (with_number 18 292 1 0x61) ≡ 18 ∷ 28 ∷ 29 ∷ 30 ∷ 30 ∷ 33 ∷ 29 ∷ [] }
