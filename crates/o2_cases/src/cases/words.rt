@@ -1,9 +1,8 @@
-// Names, bits, numbers in order, revokes and hashes on single cases.
-ghost use Rattle.std.specs.Prelude.{◌≡◌, ◌==◌, ℕ, List, [], ◌∷◌, true, false, codes, replicate};
+// Names, bits, numbers in order and hashes on single cases.
+ghost use Rattle.std.specs.Prelude.{◌≡◌, ◌==◌, [], ◌∷◌, true, false, codes, replicate};
 ghost use Rattle.o2_ondisk.specs.declared.superblock.DxSeed.{DxSeed};
 ghost use Rattle.o2_model.specs.Orders.{later_like, rising};
 ghost use Rattle.o2_model.specs.Groups.{is_bit_set_in};
-ghost use Rattle.o2_model.specs.Logs.{LoggedBlock, Transaction, unrevoked};
 ghost use Rattle.o2_model.specs.NameHash.{NameHash, is_ascii_name, name_hash};
 ghost use Rattle.o2_model.specs.SystemFiles.{system_name};
 ghost use Rattle.o2_model.specs.declared.system_file.SlotFile.TheVariants.{Journal};
@@ -29,14 +28,6 @@ pub fn bits_on_cases()
 pub fn orders_on_cases()
     ensures again { later_like (λ x y. x == y) (7 ∷ 5 ∷ 7 ∷ []) ≡ 7 ∷ [] }
     ensures once { rising (7 ∷ 5 ∷ 7 ∷ []) ≡ 5 ∷ 7 ∷ [] }
-{}
-
-/// A law: a revoke suppresses a write of an earlier transaction and of its own, and none of a later one.
-pub fn revokes_on_cases()
-    ensures earlier { (x y : LoggedBlock) → x.block ≡ 7 → y.block ≡ 8
-        → unrevoked (record { writes = x ∷ []; revoked = [] } ∷ record { writes = y ∷ []; revoked = 7 ∷ [] } ∷ []) ≡ y ∷ [] }
-    ensures later { (x y : LoggedBlock) → x.block ≡ 7 → y.block ≡ 7
-        → unrevoked (record { writes = x ∷ []; revoked = 7 ∷ [] } ∷ record { writes = y ∷ []; revoked = [] } ∷ []) ≡ y ∷ [] }
 {}
 
 /// A law: hashes of the dots, of a short name, and of one of more than 16 bytes.
