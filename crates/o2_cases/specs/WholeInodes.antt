@@ -39,6 +39,7 @@ plain_dinode block = record {
   orphaned_slot = 0;
   dyn_features = record { 0 = 0 };
   xattr_loc = 0;
+  check = 0;
   dx_root = 0;
   refcount_loc = 0;
   suballoc_loc = 0;
