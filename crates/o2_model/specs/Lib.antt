@@ -35,10 +35,6 @@ pub mod LogGrammar
 pub mod Dirty
 pub mod Anchors
 pub mod Replay
-pub mod FourImages
 pub mod AfterReplay
 pub mod Owned
-pub mod Frames
 pub mod Intact
-pub mod Walked
-pub mod Agrees

@@ -1,5 +1,0 @@
-use Rattle.o2_model.proofs.Readings.{leaf_records_are}
-use Rattle.o2_model.proofs.extent_laws.leaf_records_are_those_below.Goals as goal
-
-pub returns : goal.returns
-returns c = leaf_records_are

@@ -1,5 +1,0 @@
-use Rattle.o2_model.proofs.SameEntries.{entries_same}
-use Rattle.o2_model.proofs.frame_laws.other_blocks_keep_entries.Goals as goal
-
-pub returns : goal.returns
-returns c = entries_same

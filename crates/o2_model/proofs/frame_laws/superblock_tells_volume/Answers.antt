@@ -1,5 +1,0 @@
-use Rattle.o2_model.proofs.Failing.{volume_of-over}
-use Rattle.o2_model.proofs.frame_laws.superblock_tells_volume.Goals as goal
-
-pub returns : goal.returns
-returns c = volume_of-over

@@ -1,8 +1,0 @@
-use Rattle.o2_model.proofs.IntactSteps.{keeps_itself, keeps_by_steps}
-use Rattle.o2_model.proofs.intact_laws.intact_paths_are_kept_by_steps.Goals as goal
-
-pub returns-clause-itself : goal.returns-clause-itself
-returns-clause-itself c = keeps_itself
-
-pub returns-clause-steps : goal.returns-clause-steps
-returns-clause-steps c = keeps_by_steps

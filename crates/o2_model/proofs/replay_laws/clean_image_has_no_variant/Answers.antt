@@ -1,5 +1,0 @@
-use Rattle.o2_model.proofs.Replays.{no_variant}
-use Rattle.o2_model.proofs.replay_laws.clean_image_has_no_variant.Goals as goal
-
-pub returns : goal.returns
-returns c = no_variant

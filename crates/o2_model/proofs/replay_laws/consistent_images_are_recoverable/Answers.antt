@@ -1,8 +1,0 @@
-use Rattle.o2_model.proofs.Recoverables.{consistent_recoverable, recoverable_repairable}
-use Rattle.o2_model.proofs.replay_laws.consistent_images_are_recoverable.Goals as goal
-
-pub returns-clause-recoverable : goal.returns-clause-recoverable
-returns-clause-recoverable c = consistent_recoverable
-
-pub returns-clause-repairable : goal.returns-clause-repairable
-returns-clause-repairable c = recoverable_repairable

@@ -1,5 +1,0 @@
-use Rattle.o2_model.proofs.ChainEnds.{groups_apart}
-use Rattle.o2_model.proofs.walk_laws.no_group_is_walked_twice.Goals as goal
-
-pub returns : goal.returns
-returns c = groups_apart

@@ -1,5 +1,0 @@
-use Rattle.o2_model.proofs.TreeEnds.{walk_ends}
-use Rattle.o2_model.proofs.walk_laws.tree_walk_ends.Goals as goal
-
-pub returns : goal.returns
-returns c = walk_ends
