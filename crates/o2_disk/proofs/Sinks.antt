@@ -1,5 +1,6 @@
 -- What a call that fails last does to the count of faults.
-use Rattle.std.proofs.Common.{◌≡◌, inl, inr, ℕ, ◌∙◌, subst, arith}
+use Rattle.std.proofs.Common.{◌≡◌, inl, inr, ℕ, Result, Ok, Err, ◌∙◌, subst, arith}
+use Rattle.std.specs.Prelude.{OnErr}
 use Rattle.o2_disk.specs.Device.{Rose}
 use Rattle.o2_disk.specs.Output.{SinkState, OneMore, FailsLast, StopsAtFault}
 
@@ -19,3 +20,8 @@ stops_behind old mid new same stops = elim stops [
   | inl none ↦ inl (none ∙ same)
   | inr fails ↦ inr (fails_behind old mid new same fails)
 ]
+
+-- the same of a call that failed, whatever it answers
+pub err_behind : {T E : Type 0} (result : Result T E) (old mid new : SinkState) → mid.faults ≡ old.faults → FailsLast mid new → OnErr result (FailsLast old new)
+err_behind (Ok x) old mid new same fails = tt
+err_behind (Err e) old mid new same fails = fails_behind old mid new same fails

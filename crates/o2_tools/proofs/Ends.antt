@@ -86,14 +86,14 @@ module _ (tool : List ℕ) (old mid new : SinkState) where
     pub stops_of : StopsAtFault mid new → StopsAtFault old new
     stops_of line = elim (fault_or_not cause) [
       | inl is ↦ inr (subst (FailsLast old) (sym (silent_fault is)) (fault is))
-      | inr no ↦ stops_behind old mid new (quiet no) line
+      | inr differs ↦ stops_behind old mid new (quiet differs) line
     ]
 
     -- the line is whole where the sink did not fail
     pub whole_of : ((Rose mid.faults new.faults → ⊥) → Takes mid new (cause_line tool cause)) → (Rose old.faults new.faults → ⊥) → Takes mid new (cause_line tool cause)
     whole_of line calm = elim (fault_or_not cause) [
       | inl is ↦ absurd (calm (subst (λ (s : SinkState). Rose old.faults s.faults) (sym (silent_fault is)) (fails_rose old mid (fault is))))
-      | inr no ↦ line (λ rose. calm (subst (λ (n : ℕ). Rose n new.faults) (quiet no) rose))
+      | inr differs ↦ line (λ rose. calm (subst (λ (n : ℕ). Rose n new.faults) (quiet differs) rose))
     ]
 
     -- a fault of the output is the last one

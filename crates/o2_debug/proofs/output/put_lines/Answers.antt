@@ -2,7 +2,7 @@
 use Rattle.std.proofs.Common.{◌+◌, drop, arith, ◌∙◌, ap, refl}
 use Rattle.std.specs.List.{concat}
 use Rattle.std.proofs.lemmas.List.{take_all}
-use Rattle.o2_disk.proofs.Sinks.{fails_behind}
+use Rattle.o2_disk.proofs.Sinks.{err_behind}
 use Rattle.o2_debug.proofs.Fronts.{takes_nothing, takes_both, takes_as, all_is_some, some_of_next, some_of_both, some_as, lines_more, lines_around}
 use Rattle.o2_debug.proofs.output.put_lines.Goals as goal
 
@@ -38,4 +38,4 @@ returns-clause-some g c =
     all_is_some (takes_as (ap concat (take_all i lines (omega (arith, c.loop-line-test.false)))) c.loop-line.invariant.taken)
 
 pub returns-in_err-put_text-clause-stops : goal.returns-in_err-put_text-clause-stops
-returns-in_err-put_text-clause-stops g c = fails_behind _ _ _ c.loop-line.invariant.faults c.in_err-put_text.ensures.stops
+returns-in_err-put_text-clause-stops g c = err_behind c.from_residual.result (g.K.Sink.state c.args.out.now) (g.K.Sink.state c.loop-line.out) (g.K.Sink.state c.put_text.new.out) c.loop-line.invariant.faults c.in_err-put_text.ensures.stops

@@ -1,6 +1,6 @@
 -- What was taken before a fault, and one piece more.
 use Rattle.std.proofs.Common.{arith, ◌∙◌, length-drop, refl}
-use Rattle.o2_disk.proofs.Sinks.{fails_behind}
+use Rattle.o2_disk.proofs.Sinks.{err_behind}
 use Rattle.o2_debug.proofs.Fronts.{takes_nothing, takes_more, takes_whole, all_is_some, stopped_at}
 use Rattle.o2_debug.proofs.output.put_text.Goals as goal
 
@@ -28,4 +28,4 @@ pub returns-clause-some : goal.returns-clause-some
 returns-clause-some g c = all_is_some (takes_whole c.loop-put.put c.args.text.now (omega (arith, c.loop-put-test.false)) c.loop-put.invariant.taken)
 
 pub returns-in_err-put-clause-stops : goal.returns-in_err-put-clause-stops
-returns-in_err-put-clause-stops g c = fails_behind _ _ _ c.loop-put.invariant.faults c.in_err-put.ensures.failed
+returns-in_err-put-clause-stops g c = err_behind c.from_residual.result (g.K.Sink.state c.args.out.now) (g.K.Sink.state c.loop-put.out) (g.K.Sink.state c.put.new.self) c.loop-put.invariant.faults c.in_err-put.ensures.failed

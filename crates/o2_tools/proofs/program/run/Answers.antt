@@ -5,6 +5,7 @@ use Rattle.o2_tools.specs.declared.cause.Cause.{Cause}
 use Rattle.o2_tools.specs.CauseLines.{reply_text}
 use Rattle.o2_tools.specs.CommandLine.{texts, tool_of}
 use Rattle.o2_tools.specs.Replies.{ComesFor, IsReply}
+use Rattle.o2_tools.specs.Status.{IsDone}
 use Rattle.o2_tools.proofs.Ends.{output_of, front_of, comes_after, whole_of, stops_of, fails_of, fine_of, nothing_taken, nothing_put}
 use Rattle.o2_tools.proofs.program.run.Goals as goal
 
@@ -52,7 +53,7 @@ returns-in-Ok-clause-reply g c query asks I told =
       report = c.obey-cause.ensures.begun query asks I told;
       refused = λ refused. ap state (c.obey-cause.ensures.silent (query, asks) I told refused);
       line = c.in-Ok.ensures.some;
-      whole = whole_of tool _ (state c.obey-cause.new.out) _ c.obey-cause.result c.obey-cause.ensures.quiet c.obey-cause.ensures.output (λ none. ap state (c.report.ensures.still none)) c.in-Ok.ensures.all;
+      whole = whole_of tool (state c.args.out.now) (state c.obey-cause.new.out) (state c.report.new.out) c.obey-cause.result c.obey-cause.ensures.quiet c.obey-cause.ensures.output (λ none. ap state (c.report.ensures.still none)) c.in-Ok.ensures.all;
     })
 
 pub returns-in-Err-clause-reply : goal.returns-in-Err-clause-reply
@@ -71,14 +72,23 @@ returns-in-Err-clause-reply g c query asks I told =
 pub returns-in-Ok-clause-stops : goal.returns-in-Ok-clause-stops
 returns-in-Ok-clause-stops g c =
     let state = g.K.Sink.state in
-    stops_of (tool_of (texts c.args.words.now)) _ (state c.obey-cause.new.out) _ c.obey-cause.result c.obey-cause.ensures.quiet c.obey-cause.ensures.output (λ none. ap state (c.report.ensures.still none)) c.report.ensures.stops
+    stops_of (tool_of (texts c.args.words.now)) (state c.args.out.now) (state c.obey-cause.new.out) (state c.report.new.out) c.obey-cause.result c.obey-cause.ensures.quiet c.obey-cause.ensures.output (λ none. ap state (c.report.ensures.still none)) c.report.ensures.stops
 
 pub returns-in-Ok-clause-fine : goal.returns-in-Ok-clause-fine
 returns-in-Ok-clause-fine g c is =
     let state = g.K.Sink.state in
-    fine_of (tool_of (texts c.args.words.now)) _ (state c.obey-cause.new.out) _ c.obey-cause.result (sym c.by.ensures.cause ∙ is) c.obey-cause.ensures.quiet (λ none. ap state (c.report.ensures.still none))
+    fine_of (tool_of (texts c.args.words.now)) (state c.args.out.now) (state c.obey-cause.new.out) (state c.report.new.out) c.obey-cause.result (sym c.by.ensures.cause ∙ is) c.obey-cause.ensures.quiet (λ none. ap state (c.report.ensures.still none))
 
 pub returns-in-Ok-clause-output_fault : goal.returns-in-Ok-clause-output_fault
 returns-in-Ok-clause-output_fault g c is =
     let state = g.K.Sink.state in
-    fails_of (tool_of (texts c.args.words.now)) _ (state c.obey-cause.new.out) _ c.obey-cause.result c.obey-cause.ensures.quiet c.obey-cause.ensures.output (λ none. ap state (c.report.ensures.still none)) (sym c.by.ensures.cause ∙ is)
+    fails_of (tool_of (texts c.args.words.now)) (state c.args.out.now) (state c.obey-cause.new.out) (state c.report.new.out) c.obey-cause.result c.obey-cause.ensures.quiet c.obey-cause.ensures.output (λ none. ap state (c.report.ensures.still none)) (sym c.by.ensures.cause ∙ is)
+
+pub returns-in-Ok-clause-settled : goal.returns-in-Ok-clause-settled
+returns-in-Ok-clause-settled g c asked done I settled = c.obey-cause.ensures.settled asked (subst IsDone c.by.ensures.cause done) I settled
+
+pub returns-in-Err-clause-output : goal.returns-in-Err-clause-output
+returns-in-Err-clause-output g c other quiet =
+    let state = g.K.Sink.state in
+    subst (λ (cause : Cause). Takes (state c.args.out.now) (state c.report.new.out) (reply_text (tool_of (texts c.args.words.now)) cause)) (sym c.by-in-Err.ensures.cause)
+    (nothing_taken (state c.args.out.now) (state c.report.new.out) (ap state (c.in-Err.ensures.nothing ∙ c.obey-cause.ensures.unsaid other c.in-Err.ensures.memory)))

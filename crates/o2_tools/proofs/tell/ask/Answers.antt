@@ -27,3 +27,9 @@ returns-clause-untouched g c =
     IfErr-weaker c.command.result _ _
     (λ fault same check b is I told. same check b is I (ap (λ d. (g.D.Disk.state d).content) c.in-Ok.ensures.disk ∙ told))
     c.command.ensures.untouched
+
+pub returns-clause-cut : goal.returns-clause-cut
+returns-clause-cut g c failed I told = c.command.ensures.cut failed I (ap (λ d. (g.D.Disk.state d).content) c.in-Ok.ensures.disk ∙ told)
+
+pub returns-clause-some : goal.returns-clause-some
+returns-clause-some g c I told = c.command.ensures.some I (ap (λ d. (g.D.Disk.state d).content) c.in-Ok.ensures.disk ∙ told)
