@@ -6,6 +6,7 @@ pub mod MetadataKeeps
 pub mod SharingKeeps
 pub mod GroupChecksKeep
 pub mod JournalsKeep
+pub mod JournalSupers
 pub mod OdditiesKeep
 pub mod InodeChecksKeep
 pub mod SkeletonKeeps

@@ -1,5 +1,6 @@
 -- Which blocks are owned, and what they tell of a volume on which nothing fails.
 pub mod OwnedBlocks
+pub mod HeldBlocks
 pub mod GroupsOwned
 pub mod BitsOwned
 pub mod DataOwned

@@ -1,4 +1,4 @@
--- Where nothing fails, each index holds: its root, its extent blocks and its leaves are owned.
+-- Where nothing fails, each index holds: its root, its extent blocks and its leaves are held.
 use Rattle.std.proofs.Common.{◌≡◌, inl, inr, ℕ, Bool, true, false, ◌&&◌, not, List, [], ◌∷◌, refl}
 use Rattle.std.specs.List.{Contains, list_all}
 use Rattle.std.specs.Option.{option_map_or}
@@ -16,12 +16,12 @@ use Rattle.o2_model.specs.Indexes.{is_indexed, indexed_directories, index_root, 
 use Rattle.o2_model.specs.Claims.{claims_before_index, claimed_clusters}
 use Rattle.o2_model.specs.Checks.Dx.{holds_index, dx_faults}
 use Rattle.o2_model.specs.Failing.{faults, failing}
-use Rattle.o2_model.specs.Owned.{is_owned}
+use Rattle.o2_laws.proofs.Owned.HeldBlocks.{is_held}
 use Rattle.o2_laws.proofs.NothingFails.{no_check_fails}
 use Rattle.o2_laws.proofs.Failing.{none_fails}
 use Rattle.o2_laws.proofs.Found.{each_of, passes_of_all}
 use Rattle.o2_laws.proofs.Members.{contains_filter, among_contains}
-use Rattle.o2_laws.proofs.Owned.BitsOwned.{when_some, metadata_bit_owned}
+use Rattle.o2_laws.proofs.Owned.BitsOwned.{when_some, metadata_bit_held}
 use Rattle.o2_laws.proofs.WellRead.{IsWellRead, well_none, list_well}
 use Rattle.o2_laws.proofs.Owned.OwnedTells.{listed_is_inode}
 
@@ -68,16 +68,16 @@ index_formed : (v : Volume) (d : ℕ) → failing v ≡ [] → Contains (indexed
 index_formed v d none is = well_formed v (claimed_clusters (claims_before_index v d)) d (index_holds v d none is)
 
 -- ---- its own blocks
-own_block_owned : (v : Volume) (o : Origin) (b : ℕ) → is_own_block v o b ≡ true → is_owned v b ≡ true
+own_block_held : (v : Volume) (o : Origin) (b : ℕ) → is_own_block v o b ≡ true → is_held v b ≡ true
 unfolding is_own_block
-own_block_owned v o b h =
-    metadata_bit_owned v b
+own_block_held v o b h =
+    metadata_bit_held v b
     (when_some (is_on_metadata_bit v b ≡ true) (has_slot_and_bit v o b) (group_with_bit v are_metadata b) (λ g is. rw is refl)
     (and_parts (option_map_or (has_slot_and_bit v o b) (group_with_bit v are_metadata b) false) _ h).0)
 
-pub index_root_owned : (v : Volume) (d : ℕ) → failing v ≡ [] → Contains (indexed_directories v) d → is_owned v (index_root v d) ≡ true
-index_root_owned v d none is =
-    own_block_owned v (index_root_origin v (index_root v d)) (index_root v d) (and_parts (is_index_root v d (index_root v d)) _ (index_formed v d none is).root).1
+pub index_root_held : (v : Volume) (d : ℕ) → failing v ≡ [] → Contains (indexed_directories v) d → is_held v (index_root v d) ≡ true
+index_root_held v d none is =
+    own_block_held v (index_root_origin v (index_root v d)) (index_root v d) (and_parts (is_index_root v d (index_root v d)) _ (index_formed v d none is).root).1
 
 -- ---- its list
 -- what is read of it, where there is one
@@ -115,8 +115,8 @@ lists_parts v d h = elim (cases_Bool (is_inline_index v (index_root v d))) [
 pub index_reads : (v : Volume) (d : ℕ) → failing v ≡ [] → Contains (indexed_directories v) d → (index_extents v d).faults ≡ []
 index_reads v d none is = (lists_parts v d (index_formed v d none is).lists).faults
 
-pub index_block_owned : (v : Volume) (d b : ℕ) → failing v ≡ [] → Contains (indexed_directories v) d → among (index_extents v d).blocks b ≡ true → is_owned v b ≡ true
-index_block_owned v d b none is h =
-    own_block_owned v (extent_block_origin v b) b
+pub index_block_held : (v : Volume) (d b : ℕ) → failing v ≡ [] → Contains (indexed_directories v) d → among (index_extents v d).blocks b ≡ true → is_held v b ≡ true
+index_block_held v d b none is h =
+    own_block_held v (extent_block_origin v b) b
     (passes_of_all (λ b. is_own_block v (extent_block_origin v b) b) (index_extents v d).blocks b (lists_parts v d (index_formed v d none is).lists).blocks
     (among_contains (index_extents v d).blocks b h))
