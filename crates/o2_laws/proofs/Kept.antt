@@ -7,6 +7,8 @@ pub mod SharingKeeps
 pub mod GroupChecksKeep
 pub mod JournalsKeep
 pub mod JournalSupers
+pub mod JournalUses
+pub mod JournalsApart
 pub mod OdditiesKeep
 pub mod InodeChecksKeep
 pub mod SkeletonKeeps

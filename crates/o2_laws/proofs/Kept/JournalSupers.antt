@@ -14,7 +14,7 @@ use Rattle.o2_laws.proofs.Agreeing.{option_agree}
 use Rattle.o2_laws.proofs.Owned.HeldBlocks.{on_held}
 use Rattle.o2_laws.proofs.Owned.DataOwned.{mapped_claimed, data_mapped}
 use Rattle.o2_laws.proofs.Owned.SystemOwned.{journal_is_inode}
-use Rattle.o2_laws.proofs.Kept.JournalsKeep.{held_tell_journal_blocks, journal_super_holds}
+use Rattle.o2_laws.proofs.Kept.JournalsKeep.{held_tell_journal_blocks, journal_holds}
 
 first_among : (bs : List ℕ) (b : ℕ) → slice_get bs 0 ≡ Some b → among bs b ≡ true
 first_among [] b is = cc
@@ -49,6 +49,6 @@ module _ (v : Volume) (at : ℕ → List ℕ) (none : failing v ≡ []) (agrees 
 
 pub sound_supers : (v : Volume) (at : ℕ → List ℕ) → failing v ≡ [] → AgreesOnOwned v at → HasSoundJournalSupers v at
 sound_supers v at none agrees = record {
-  sound = λ j listed. super_same v at none agrees j listed ∙ (journal_super_holds v j none listed).sound;
-  known = λ j listed. features_same v at none agrees j listed ∙ (journal_super_holds v j none listed).known;
+  sound = λ j listed. super_same v at none agrees j listed ∙ (journal_holds v j none listed).sound;
+  known = λ j listed. features_same v at none agrees j listed ∙ (journal_holds v j none listed).known;
 }

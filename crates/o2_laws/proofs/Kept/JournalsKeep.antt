@@ -60,25 +60,27 @@ unfolding journal_blocks
 held_tell_journal_blocks v at i none agrees is = ap (λ t. flat_map (blocks_under v) t.leaves) (held_tell_extents v at i none agrees is)
 
 -- ---- their superblocks
--- what JOURNAL asks of a journal's superblock
-pub record HasSoundSuper (v : Volume) (b : ℕ) : Type 0 where
+-- what JOURNAL asks of a journal's records and superblock
+pub record IsSoundJournal (v : Volume) (b : ℕ) : Type 0 where
+  pub plain : have_no_flags (leaf_records v b) ≡ true
   pub sound : is_sound_journal_super v b ≡ true
   pub known : has_known_features v b ≡ true
 
-super_of_journal : (v : Volume) (b : ℕ) → is_sound_journal v b ≡ true → HasSoundSuper v b
+sound_journal : (v : Volume) (b : ℕ) → is_sound_journal v b ≡ true → IsSoundJournal v b
 unfolding is_sound_journal
-super_of_journal v b h =
-    let listed = is_none_of (extent_faults v b) && not (is_none_of (leaf_records v b)) && are_without_gap (leaf_records v b) && have_no_flags (leaf_records v b) in
-    let last = and_parts (listed && is_sound_journal_super v b) (has_known_features v b) h in
-    record { sound = (and_parts listed (is_sound_journal_super v b) last.0).1; known = last.1 }
+sound_journal v b h =
+    let list = is_none_of (extent_faults v b) && not (is_none_of (leaf_records v b)) && are_without_gap (leaf_records v b) in
+    let last = and_parts (list && have_no_flags (leaf_records v b) && is_sound_journal_super v b) (has_known_features v b) h in
+    let before = and_parts (list && have_no_flags (leaf_records v b)) (is_sound_journal_super v b) last.0 in
+    record { plain = (and_parts list (have_no_flags (leaf_records v b)) before.0).1; sound = before.1; known = last.1 }
 
 journals_hold : (v : Volume) → failing v ≡ [] → journal_faults v ≡ []
 unfolding faults
 journals_hold v none = no_check_fails v none check.Journal
 
-pub journal_super_holds : (v : Volume) (j : ℕ) → failing v ≡ [] → among (journals v) j ≡ true → HasSoundSuper v j
-journal_super_holds v j none listed =
-    super_of_journal v j (each_of (λ b. is_sound_journal v b ≡ true) (journals v) j (none_fails (λ b. b) (is_sound_journal v) (journals v) (journals_hold v none)) (among_contains (journals v) j listed))
+pub journal_holds : (v : Volume) (j : ℕ) → failing v ≡ [] → among (journals v) j ≡ true → IsSoundJournal v j
+journal_holds v j none listed =
+    sound_journal v j (each_of (λ b. is_sound_journal v b ≡ true) (journals v) j (none_fails (λ b. b) (is_sound_journal v) (journals v) (journals_hold v none)) (among_contains (journals v) j listed))
 
 -- where the superblock is sound with known features, the journal is judged as it was
 sound_journal_same : (v : Volume) (at : ℕ → List ℕ) (b : ℕ) → failing v ≡ [] → AgreesOnHeld v at → HasSoundJournalSupers v at → Contains (journals v) b → is_sound_journal (over v at) b ≡ is_sound_journal v b
@@ -88,7 +90,7 @@ sound_journal_same v at b none agrees supers listed =
     let list = held_tell_extents v at b none agrees is in
     let records : leaf_records (over v at) b ≡ leaf_records v b = ap (λ t. t.leaves) list in
     let among_all = found (λ m. b == m) (journals v) b listed (eq-eqb b b refl) in
-    let old = journal_super_holds v b none among_all in
+    let old = journal_holds v b none among_all in
     rw (supers.sound b among_all, old.sound, supers.known b among_all, old.known, extent_faults_same v at b list, records) refl
 
 -- ---- checks
