@@ -1,4 +1,4 @@
--- What blocks that agree on the owned ones keep: each check, claims, and what a user has.
+-- What blocks that agree on the held ones keep: each check, claims, and what a user has.
 pub mod RootsKeep
 pub mod BlockNames
 pub mod RefcountsKeep
@@ -6,8 +6,8 @@ pub mod MetadataKeeps
 pub mod SharingKeeps
 pub mod GroupChecksKeep
 pub mod JournalsKeep
-pub mod JournalSupers
 pub mod JournalUses
+pub mod JournalSupers
 pub mod JournalsApart
 pub mod OdditiesKeep
 pub mod InodeChecksKeep

@@ -1,8 +1,8 @@
 -- Where nothing fails, each index holds: its root, its extent blocks and its leaves are held.
-use Rattle.std.proofs.Common.{◌≡◌, inl, inr, ℕ, Bool, true, false, ◌&&◌, not, List, [], ◌∷◌, refl}
+use Rattle.std.proofs.Common.{◌≡◌, inl, inr, ℕ, Bool, true, false, ◌&&◌, not, List, [], refl}
 use Rattle.std.specs.List.{Contains, list_all}
 use Rattle.std.specs.Option.{option_map_or}
-use Rattle.std.proofs.lemmas.Bool.{cases_Bool, and_parts, and_right, not_from_true, false≢true}
+use Rattle.std.proofs.lemmas.Bool.{cases_Bool, and_parts, and_right, not_from_true}
 use Rattle.o2_model.specs.declared.check.Check.TheVariants as check
 use Rattle.o2_model.specs.Words.{among}
 use Rattle.o2_model.specs.Orders.{is_none_of}
@@ -19,7 +19,7 @@ use Rattle.o2_model.specs.Failing.{faults, failing}
 use Rattle.o2_laws.proofs.Owned.HeldBlocks.{is_held}
 use Rattle.o2_laws.proofs.NothingFails.{no_check_fails}
 use Rattle.o2_laws.proofs.Failing.{none_fails}
-use Rattle.o2_laws.proofs.Found.{each_of, passes_of_all}
+use Rattle.o2_laws.proofs.Found.{each_of, passes_of_all, none_of}
 use Rattle.o2_laws.proofs.Members.{contains_filter, among_contains}
 use Rattle.o2_laws.proofs.Owned.BitsOwned.{when_some, metadata_bit_held}
 use Rattle.o2_laws.proofs.WellRead.{IsWellRead, well_none, list_well}
@@ -91,10 +91,6 @@ index_well v d = elim (cases_Bool (is_index_root v d (index_root v d) && not (is
   | inl has ↦ rw has (list_well v 3 (index_root v d) 0xc0 _)
   | inr none ↦ rw none (well_none v)
 ]
-
-none_of : {A : Type 0} (xs : List A) → is_none_of xs ≡ true → xs ≡ []
-none_of [] h = refl
-none_of (x ∷ xs) h = absurd (false≢true h)
 
 record IsWellListed (v : Volume) (d : ℕ) : Type 0 where
   faults : (index_extents v d).faults ≡ []

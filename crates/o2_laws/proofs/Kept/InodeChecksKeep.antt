@@ -66,17 +66,20 @@ is_directory_by_kind v b h = h
 inline_same : (v : Volume) (at : ℕ → List ℕ) (b : ℕ) → at b ≡ v.at b → is_inline (over v at) b ≡ is_inline v b
 inline_same v at b inode = rw inode refl
 
-pub sound_size_same : (v : Volume) (at : ℕ → List ℕ) (b : ℕ) → failing v ≡ [] → AgreesOnHeld v at → is_inode v b ≡ true → has_sound_size (over v at) b ≡ has_sound_size v b
+-- by what a size is judged by
+pub size_same : (v : Volume) (at : ℕ → List ℕ) (b : ℕ) → at b ≡ v.at b → extents (over v at) b ≡ extents v b → own_inodes (over v at) ≡ own_inodes v → (is_directory_kind (kind v b) ≡ true → dir_blocks (over v at) b ≡ dir_blocks v b)
+    → has_sound_size (over v at) b ≡ has_sound_size v b
 unfolding has_sound_size
+size_same v at b inode list own blocks = elim (cases_Bool (is_inline v b)) [
+  | inl inline ↦ rw (inode, inline) refl
+  | inr outside ↦ rw (inline_same v at b inode, outside) (ap (is_size_of_kind (over v at) b) (kind_same v at b inode)
+      ∙ size_of_kind_same v at b inode list own (kind v b) blocks)
+]
+
+pub sound_size_same : (v : Volume) (at : ℕ → List ℕ) (b : ℕ) → failing v ≡ [] → AgreesOnHeld v at → is_inode v b ≡ true → has_sound_size (over v at) b ≡ has_sound_size v b
 sound_size_same v at b none agrees is =
-    let inode : at b ≡ v.at b = dinode_same v at b agrees is in
-    let list : extents (over v at) b ≡ extents v b = held_tell_extents v at b none agrees is in
-    let own : own_inodes (over v at) ≡ own_inodes v = own_same v at (held_tell_system_files v at none agrees) in
-    elim (cases_Bool (is_inline v b)) [
-      | inl inline ↦ rw (inode, inline) refl
-      | inr outside ↦ rw (inline_same v at b inode, outside) (ap (is_size_of_kind (over v at) b) (kind_same v at b inode)
-          ∙ size_of_kind_same v at b inode list own (kind v b) (λ h. blocks_of_directory v at b none agrees (record { inode = is; directory = is_directory_by_kind v b h })))
-    ]
+    size_same v at b (dinode_same v at b agrees is) (held_tell_extents v at b none agrees is) (own_same v at (held_tell_system_files v at none agrees))
+    (λ h. blocks_of_directory v at b none agrees (record { inode = is; directory = is_directory_by_kind v b h }))
 
 pub keeps_inode_size : (v : Volume) (at : ℕ → List ℕ) → failing v ≡ [] → AgreesOnHeld v at → faults (over v at) check.InodeSize ≡ faults v check.InodeSize
 unfolding faults

@@ -1,31 +1,28 @@
 -- Where nothing fails, blocks that agree on the owned ones have the same superblocks of journals, which are sound.
-use Rattle.std.proofs.Common.{◌≡◌, ℕ, true, false, ◌==◌, List, [], ◌∷◌, refl, sym, ◌∙◌, ap, Some}
+use Rattle.std.proofs.Common.{◌≡◌, ℕ, true, false, ◌==◌, List, [], refl, ◌∙◌, ap, Some}
 use Rattle.std.specs.Prelude.{slice_get}
 use Rattle.std.specs.Option.{option_map_or}
-use Rattle.std.proofs.lemmas.Bool.{or_left, or_right, eq-eqb}
+use Rattle.std.proofs.lemmas.Bool.{or_right, eq-eqb}
 use Rattle.o2_model.specs.Words.{among}
 use Rattle.o2_model.specs.Volume.{Volume, over}
 use Rattle.o2_model.specs.Groups.{is_inode}
 use Rattle.o2_model.specs.Journals.{journals, journal_blocks, journal_block, is_sound_journal_super, has_known_features}
 use Rattle.o2_model.specs.Failing.{failing}
-use Rattle.o2_model.specs.Owned.{needs_bytes, is_owned}
+use Rattle.o2_model.specs.Owned.{needs_bytes, is_owned, is_first_of_journal}
 use Rattle.o2_laws.specs.Agrees.{AgreesOnOwned, HasSoundJournalSupers}
 use Rattle.o2_laws.proofs.Agreeing.{option_agree}
 use Rattle.o2_laws.proofs.Owned.HeldBlocks.{on_held}
-use Rattle.o2_laws.proofs.Owned.DataOwned.{mapped_claimed, data_mapped}
+use Rattle.o2_laws.proofs.Owned.DataOwned.{mapped_claimed}
 use Rattle.o2_laws.proofs.Owned.SystemOwned.{journal_is_inode}
 use Rattle.o2_laws.proofs.Kept.JournalsKeep.{held_tell_journal_blocks, journal_holds}
-
-first_among : (bs : List ℕ) (b : ℕ) → slice_get bs 0 ≡ Some b → among bs b ≡ true
-first_among [] b is = cc
-first_among (c ∷ cs) b is = or_left _ _ (eq-eqb b c (let e : c ≡ b = cc in sym e))
+use Rattle.o2_laws.proofs.Kept.JournalUses.{journal_maps}
 
 -- the first block of a journal's clusters is needed
 first_block_owned : (v : Volume) (i b : ℕ) → is_inode v i ≡ true → slice_get (journal_blocks v i) 0 ≡ Some b → is_owned v b ≡ true
-unfolding is_owned journal_blocks
+unfolding is_owned
 first_block_owned v i b is first =
-    mapped_claimed (λ owner. needs_bytes v owner b) v i b is (or_right _ _ (ap (λ o. option_map_or (λ c. c == b) o false) first ∙ eq-eqb b b refl))
-    (data_mapped v i b (first_among (journal_blocks v i) b first))
+    let here : is_first_of_journal v i b ≡ true = ap (λ o. option_map_or (λ c. c == b) o false) first ∙ eq-eqb b b refl in
+    mapped_claimed (λ owner. needs_bytes v owner b) v i b is (or_right _ _ here) (journal_maps v i b here)
 
 module _ (v : Volume) (at : ℕ → List ℕ) (none : failing v ≡ []) (agrees : AgreesOnOwned v at) (j : ℕ) (listed : among (journals v) j ≡ true) where
   is : is_inode v j ≡ true

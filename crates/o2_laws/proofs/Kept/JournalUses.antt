@@ -1,8 +1,8 @@
 -- Where nothing fails, a journal's clusters have no other use: no structure claims them, and no other inode maps them.
 use Rattle.std.proofs.Common.{◌≡◌, ⊎_elim, ℕ, Bool, true, false, ◌&&◌, ◌||◌, not, ◌==◌, List, [], ◌∷◌, length, refl, sym, ◌∙◌, subst, arith}
-use Rattle.std.specs.Prelude.{flat_map}
+use Rattle.std.specs.Prelude.{flat_map, slice_get}
 use Rattle.std.specs.List.{list_any, list_all, Contains}
-use Rattle.std.proofs.lemmas.Bool.{and_from, and_parts, or_cases, eq-eqb, eqb-true, not_from_false, false≢true}
+use Rattle.std.proofs.lemmas.Bool.{and_from, and_parts, or_cases, eq-eqb, eqb-true, not_from_false, false≢true, not-true, or_left}
 use Rattle.o2_ondisk.specs.declared.extent_rec.ExtentRec.{ExtentRec}
 use Rattle.o2_model.specs.declared.check.Check.TheVariants as check
 use Rattle.o2_model.specs.Words.{among}
@@ -11,7 +11,7 @@ use Rattle.o2_model.specs.Extents.{leaf_flags}
 use Rattle.o2_model.specs.Inodes.{records_of, leaf_records}
 use Rattle.o2_model.specs.LeafRecords.{clusters_under, is_refcounted}
 use Rattle.o2_model.specs.Groups.{is_inode, inodes_of}
-use Rattle.o2_model.specs.Journals.{journals}
+use Rattle.o2_model.specs.Journals.{journals, journal_blocks}
 use Rattle.o2_model.specs.Claims.{is_claimed, structure_claims, clusters_of}
 use Rattle.o2_model.specs.Checks.DupClusters.{ClusterUse, uses_under, uses_by, uses_of, may_share, is_sole_or_shared, dup_clusters_faults}
 use Rattle.o2_model.specs.Failing.{faults, failing}
@@ -19,10 +19,13 @@ use Rattle.o2_laws.proofs.NothingFails.{no_check_fails}
 use Rattle.o2_laws.proofs.Failing.{none_fails}
 use Rattle.o2_laws.proofs.Found.{found, any_map, any_flat, any_filter, passing, each_of, passes_of_all}
 use Rattle.o2_laws.proofs.WellRead.{records_are}
-use Rattle.o2_laws.proofs.Owned.DataOwned.{among_inodes}
+use Rattle.o2_laws.proofs.Owned.DataOwned.{among_inodes, data_mapped}
 use Rattle.o2_laws.proofs.Owned.OwnedTells.{inode_listed}
 use Rattle.o2_laws.proofs.Owned.SystemOwned.{journal_is_inode}
 use Rattle.o2_laws.proofs.Kept.JournalsKeep.{journal_holds}
+use Rattle.std.specs.Option.{option_map_or}
+use Rattle.o2_model.specs.Owned.{is_first_of_journal}
+use Rattle.o2_model.specs.Clusters.{cluster_of}
 
 -- ---- uses
 -- an inode that maps the cluster has a use of it that passes what all its uses of it pass
@@ -93,7 +96,7 @@ is_apart v j c none journal maps =
     let q : ClusterUse → Bool = λ u. u.cluster == c && not u.is_shared in
     let u = passing q (uses_by v j) (used_by v j c q (λ r inside. and_from _ _ (eq-eqb c c refl) (not_from_false _ (plain_record v j r none journal inside))) maps) in
     let here : u.item.cluster ≡ c = eqb-true u.item.cluster c (and_parts (u.item.cluster == c) (not u.item.is_shared) u.passes).0 in
-    let alone : u.item.is_shared ≡ false = plain u.item.is_shared (and_parts (u.item.cluster == c) (not u.item.is_shared) u.passes).1 in
+    let alone : u.item.is_shared ≡ false = not-true u.item.is_shared (and_parts (u.item.cluster == c) (not u.item.is_shared) u.passes).1 in
     let all = each_of (λ b. list_all (is_sole_or_shared v) (uses_by v b) ≡ true) (inodes_of v) j (none_fails (λ b. b) (λ b. list_all (is_sole_or_shared v) (uses_by v b)) (inodes_of v) (dup_holds v none)) (inode_listed v j is) in
     let sole = not_both (is_claimed (structure_claims v) u.item.cluster) _ (passes_of_all (is_sole_or_shared v) (uses_by v j) u.item all u.inside) in
     let mine = inode_uses v j c is maps in
@@ -104,7 +107,12 @@ is_apart v j c none journal maps =
           (λ share. absurd (shares_none v u.item j (uses_of v c) alone mine (subst (λ n. list_all (may_share v u.item) (uses_of v n) ≡ true) here share)))
           (or_cases _ _ sole.1);
     }
-  where
-    plain : (x : Bool) → not x ≡ true → x ≡ false
-    plain true h = absurd (false≢true h)
-    plain false h = refl
+
+-- ---- its first block
+first_listed : (bs : List ℕ) (b : ℕ) → option_map_or (λ c. c == b) (slice_get bs 0) false ≡ true → among bs b ≡ true
+first_listed [] b h = absurd (false≢true h)
+first_listed (c ∷ cs) b h = or_left _ _ (eq-eqb b c (sym (eqb-true c b h)))
+
+pub journal_maps : (v : Volume) (j b : ℕ) → is_first_of_journal v j b ≡ true → list_any (λ n. n == cluster_of v b) (clusters_of v j) ≡ true
+unfolding journal_blocks
+journal_maps v j b first = data_mapped v j b (first_listed (journal_blocks v j) b first)

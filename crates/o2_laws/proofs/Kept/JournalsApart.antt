@@ -1,6 +1,6 @@
 -- Where nothing fails, a journal's clusters have no other use, so that its first block is not held.
 use Rattle.std.proofs.Common.{◌≡◌, inl, inr, ℕ, Bool, true, false, ◌&&◌, not, ◌==◌, cond, List, [], ◌∷◌, ◌++◌, refl, sym, ◌∙◌, subst, Option, Some, None}
-use Rattle.std.specs.Prelude.{filter, fold, slice_get}
+use Rattle.std.specs.Prelude.{filter, fold}
 use Rattle.std.specs.List.{list_any, range_with_len}
 use Rattle.std.specs.Option.{option_map_or}
 use Rattle.std.proofs.lemmas.Bool.{cases_Bool, and_parts, and_right, or_left, or_right, eq-eqb, eqb-true, not_from_true, false≢true}
@@ -16,7 +16,7 @@ use Rattle.o2_model.specs.Clusters.{cluster_of}
 use Rattle.o2_model.specs.SystemFiles.{system_inode}
 use Rattle.o2_model.specs.Groups.{is_inode, inodes_of}
 use Rattle.o2_model.specs.Files.{times_in}
-use Rattle.o2_model.specs.Journals.{journals, journal_blocks}
+use Rattle.o2_model.specs.Journals.{journals}
 use Rattle.o2_model.specs.Slots.{truncate_records}
 use Rattle.o2_model.specs.Indexes.{indexed_directories, index_clusters, has_sound_index_root, has_sound_index_lists, has_own_index_clusters, has_trailers, has_sound_index_counts, is_found_in_index, is_sound_index}
 use Rattle.o2_model.specs.Claims.{claims_by, claimed_clusters, is_claimed, structure_claims, clusters_of, inode_claims, with_index, claims_with_indexes, with_window_of, with_window, claims_with_windows, with_truncation, with_truncate_log, claims_with_truncations, claims_of}
@@ -27,11 +27,11 @@ use Rattle.std.proofs.lemmas.List.Sums.{length-filter}
 use Rattle.o2_laws.proofs.Found.{none_of_length, found, any_map, any_flat, passing, passes_of_all}
 use Rattle.o2_laws.proofs.Owned.OwnedBlocks.{lasts_fold}
 use Rattle.o2_laws.proofs.Owned.HeldBlocks.{AgreesOnHeld, holds_bytes, holds, is_held, held_owned}
-use Rattle.o2_laws.proofs.Owned.DataOwned.{among_inodes, data_mapped}
+use Rattle.o2_laws.proofs.Owned.DataOwned.{among_inodes}
 use Rattle.o2_laws.proofs.Owned.OwnedTells.{listed_is_inode}
 use Rattle.o2_laws.proofs.Owned.SystemOwned.{journal_is_inode}
 use Rattle.o2_laws.proofs.Members.{contains_among}
-use Rattle.o2_laws.proofs.Kept.JournalUses.{IsApart, is_apart}
+use Rattle.o2_laws.proofs.Kept.JournalUses.{IsApart, is_apart, journal_maps}
 
 -- ---- the claims
 -- the claim is of the block's cluster
@@ -130,14 +130,6 @@ inodes_unheld v b j journal apart = elim (cases_Bool (list_any (holds v b) (inod
       let other : not (among (journals v) j) ≡ true = subst (λ x. not (among (journals v) x) ≡ true) same parts.1 in
       absurd (false≢true (sym (not_from_true (among (journals v) j) journal) ∙ other))
 ]
-
-first_listed : (bs : List ℕ) (b : ℕ) → option_map_or (λ c. c == b) (slice_get bs 0) false ≡ true → among bs b ≡ true
-first_listed [] b h = absurd (false≢true h)
-first_listed (c ∷ cs) b h = or_left _ _ (eq-eqb b c (sym (eqb-true c b h)))
-
-journal_maps : (v : Volume) (j b : ℕ) → is_first_of_journal v j b ≡ true → list_any (λ n. n == cluster_of v b) (clusters_of v j) ≡ true
-unfolding journal_blocks
-journal_maps v j b first = data_mapped v j b (first_listed (journal_blocks v j) b first)
 
 inode_claimed : (v : Volume) (j b : ℕ) → is_inode v j ≡ true → list_any (λ n. n == cluster_of v b) (clusters_of v j) ≡ true → list_any (claims_cluster v b) (inode_claims v) ≡ true
 unfolding inode_claims

@@ -111,7 +111,7 @@ unfolding faults
 keeps_journal_dirty v at none agrees = each_journal v at (λ u b. not (is_dirty u b)) none agrees (λ b is. rw (dinode_same v at b agrees (listed_journal_is_inode v b none is)) refl)
 
 -- ---- dirty slots
-journal_same : (v : Volume) (at : ℕ → List ℕ) (b : ℕ) → at b ≡ v.at b → is_journal (over v at) b ≡ is_journal v b
+pub journal_same : (v : Volume) (at : ℕ → List ℕ) (b : ℕ) → at b ≡ v.at b → is_journal (over v at) b ≡ is_journal v b
 unfolding is_journal is_valid
 journal_same v at b same = rw same refl
 

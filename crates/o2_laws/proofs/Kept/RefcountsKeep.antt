@@ -16,13 +16,13 @@ use Rattle.o2_model.specs.Failing.{faults, failing}
 use Rattle.o2_laws.proofs.Owned.HeldBlocks.{is_held}
 use Rattle.o2_laws.proofs.Owned.HeldBlocks.{AgreesOnHeld}
 use Rattle.o2_laws.proofs.NothingFails.{no_check_fails}
-use Rattle.o2_laws.proofs.Found.{append_nothing, each_of, contains_first, contains_later}
+use Rattle.o2_laws.proofs.Found.{append_nothing, each_of, contains_first, contains_later, none_of}
 use Rattle.o2_laws.proofs.Members.{contains_one, contains_flat, contains_among, among_contains}
 use Rattle.o2_laws.proofs.Agreeing.{fold_agree}
 use Rattle.o2_laws.proofs.Owned.BitsOwned.{metadata_held}
-use Rattle.o2_laws.proofs.Owned.SystemOwned.{holds_unless}
 use Rattle.o2_laws.proofs.Owned.OwnedTells.{each_nothing, metadata_holds}
 use Rattle.o2_laws.proofs.Kept.BlockNames.{refcount_block_same, has_leaf_blocks_same, leaf_list_same, leaf_list_sees_blocks}
+use Rattle.o2_laws.proofs.Failing.{holds_unless}
 
 -- ---- a tree without fault
 trees_hold : (v : Volume) → failing v ≡ [] → ref_tree_faults v ≡ []
@@ -38,13 +38,9 @@ sound_root : (v : Volume) (root : ℕ) → failing v ≡ [] → Contains (refcou
 sound_root v root none is =
     holds_unless root (is_sound_root_block v root) (append_nothing (fails_unless root (is_sound_root_block v root)) (refcounts v root).faults (tree_holds v root none is)).0
 
-none_listed : (bs : List ℕ) → is_none_of bs ≡ true → bs ≡ []
-none_listed [] h = refl
-none_listed (b ∷ bs) h = cc
-
 pub no_leaf_list_fault : (v : Volume) (root : ℕ) → failing v ≡ [] → Contains (refcount_roots v) root → (leaf_list v root).faults ≡ []
 no_leaf_list_fault v root none is =
-    none_listed (leaf_list v root).faults (and_parts (is_refcount_block v root) (is_none_of (leaf_list v root).faults) (sound_root v root none is)).1
+    none_of (leaf_list v root).faults (and_parts (is_refcount_block v root) (is_none_of (leaf_list v root).faults) (sound_root v root none is)).1
 
 -- ---- its blocks are held
 pub tree_block_listed : (v : Volume) (root b : ℕ) → Contains (refcount_roots v) root → Contains (refcount_tree_blocks v root) b → Contains (metadata_blocks v) b

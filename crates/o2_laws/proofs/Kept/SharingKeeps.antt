@@ -1,4 +1,4 @@
--- Where nothing fails, the inodes that the tree meets are inodes, and blocks that agree on the held ones share the same clusters.
+-- Where nothing fails, blocks that agree on the held ones share the same clusters.
 use Rattle.std.proofs.Common.{◌≡◌, ℕ, true, ◌==◌, List, [], map, sym, ◌∙◌, ap}
 use Rattle.std.specs.List.{Contains}
 use Rattle.std.specs.Prelude.{filter, flat_map}

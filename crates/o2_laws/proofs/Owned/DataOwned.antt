@@ -1,5 +1,5 @@
 -- The blocks of an inode's clusters are held.
-use Rattle.std.proofs.Common.{◌≡◌, inl, inr, ℕ, ◌+◌, ◌-◌, ◌*◌, ◌/◌, ◌<◌, ◌≤◌, Bool, true, false, ◌&&◌, ◌==◌, List, [], ◌∷◌, map, refl, sym, ◌∙◌, ap, subst, arith}
+use Rattle.std.proofs.Common.{◌≡◌, inl, inr, ℕ, ◌+◌, ◌-◌, ◌*◌, ◌/◌, ◌<◌, ◌≤◌, Bool, true, false, ◌&&◌, ◌==◌, List, map, refl, sym, ◌∙◌, ap, subst, arith}
 use Rattle.std.specs.Prelude.{filter, flat_map, nat_lt}
 use Rattle.std.specs.List.{list_any, AllByRecursion, Contains, range_with_len}
 use Rattle.std.proofs.lemmas.Bool.{cases_Bool, and_from, and_parts, eq-eqb, eqb-true, not_from_false}
@@ -23,7 +23,7 @@ use Rattle.o2_laws.specs.Frames.{content_blocks}
 use Rattle.o2_model.specs.Claims.{claims_by, clusters_of, inode_claims, claims_of}
 use Rattle.o2_laws.proofs.Owned.HeldBlocks.{holds_bytes, is_held}
 use Rattle.o2_laws.proofs.Found.{found, any_map, any_flat, any_filter, any_range, passing, range_bounds, each_of}
-use Rattle.o2_laws.proofs.Members.{among_contains}
+use Rattle.o2_laws.proofs.Members.{among_contains, among_one}
 use Rattle.o2_laws.proofs.Owned.HeldBlocks.{inodes_find, by_need}
 use Rattle.o2_laws.proofs.Owned.GroupsOwned.{cluster_in}
 use Rattle.o2_laws.proofs.WellRead.{BeginsCluster, extents_well, records_are}
@@ -118,13 +118,10 @@ runs_among v limit b rs h =
     (sym (any_flat (λ x. b == x.block) (mapped v limit) rs) ∙ (sym (any_map (λ m. b == m) (λ x. x.block) (flat_map (mapped v limit) rs)) ∙ h)) in
     any_flat (λ m. b == m) (blocks_under v) rs ∙ found (λ r. among (blocks_under v r) b) rs r.item r.inside (mapped_among v limit b r.item r.passes)
 
-single : (b d : ℕ) → among (d ∷ []) b ≡ true → (b == d) ≡ true
-single b d h = grind arith
-
 pub directory_held : (v : Volume) (d b : ℕ) → is_inode v d ≡ true → among (journals v) d ≡ false → among (map (λ x. x.block) (dir_blocks v d)) b ≡ true → is_held v b ≡ true
 unfolding dir_blocks
 directory_held v d b is apart h = elim (cases_Bool (is_inline v d)) [
   | inl inline ↦
-      subst (λ x. is_held v x ≡ true) (omega (arith, eqb-true b d (single b d (rw inline at h)))) (dinode_held v d is)
+      subst (λ x. is_held v x ≡ true) (omega (arith, eqb-true b d (among_one b d (rw inline at h)))) (dinode_held v d is)
   | inr outside ↦ content_held v d b is apart (runs_among v _ b (filter is_written (leaf_records v d)) (rw outside at h))
 ]

@@ -15,14 +15,13 @@ use Rattle.o2_model.specs.Failing.{faults, failing}
 use Rattle.o2_laws.proofs.Owned.HeldBlocks.{is_held}
 use Rattle.o2_laws.proofs.Owned.HeldBlocks.{AgreesOnHeld}
 use Rattle.o2_laws.proofs.NothingFails.{no_check_fails}
-use Rattle.o2_laws.proofs.Failing.{volume_of-over}
-use Rattle.o2_laws.proofs.Owned.SystemOwned.{holds_unless}
+use Rattle.o2_laws.proofs.Failing.{volume_of-over, holds_unless}
 use Rattle.o2_laws.proofs.Owned.GroupsOwned.{first_held}
 use Rattle.o2_laws.proofs.Owned.OwnedTree.{held_tell_tree}
 use Rattle.o2_laws.proofs.Owned.OwnedFiles.{held_tell_files}
 
 -- ---- the superblock
-super_holds : (v : Volume) → failing v ≡ [] → super_faults v ≡ []
+pub super_holds : (v : Volume) → failing v ≡ [] → super_faults v ≡ []
 unfolding faults
 super_holds v none = no_check_fails v none check.Super
 
