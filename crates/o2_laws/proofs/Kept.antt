@@ -28,5 +28,5 @@ pub mod DxKeeps
 pub mod SlotPartsKeep
 pub mod AllocBitsKeep
 pub mod DupClustersKeeps
-pub mod OwnedChecks
+pub mod KeptChecks
 pub mod ConsistentImages

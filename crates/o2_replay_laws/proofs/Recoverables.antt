@@ -9,8 +9,8 @@ use Rattle.o2_model.specs.Dirty.{dirty_slots, journal_fault}
 use Rattle.o2_model.specs.Replay.{AreAnchorsApart, IsReplayable, IsReplayStable, IsRecoverable}
 use Rattle.o2_laws.proofs.NothingDirty.{consistent_clean, consistent_replayed}
 use Rattle.o2_replay_laws.proofs.Replays.{no_variant}
-use Rattle.o2_laws.proofs.Owned.OwnedImages.{super_holds}
-use Rattle.o2_laws.proofs.Owned.SystemOwned.{sysdir_holds}
+use Rattle.o2_laws.proofs.Held.HeldImages.{super_holds}
+use Rattle.o2_laws.proofs.Held.OwnInodes.{sysdir_holds}
 
 -- ---- where nothing is dirty
 no_journal_at_fault : (v : Volume) → dirty_slots v ≡ [] → journal_fault v ≡ None

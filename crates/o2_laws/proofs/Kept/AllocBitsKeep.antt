@@ -18,11 +18,11 @@ use Rattle.o2_model.specs.Checks.Dx.{holds_index, directories_with_sound_index}
 use Rattle.o2_model.specs.Checks.BlockAllocBit.{blocks_in_use, has_bits_of_blocks}
 use Rattle.o2_model.specs.Checks.ClusterAllocBit.{cluster_of_bit, has_bits_of_claims}
 use Rattle.o2_model.specs.Failing.{faults, failing}
-use Rattle.o2_laws.proofs.Owned.HeldBlocks.{AgreesOnHeld}
+use Rattle.o2_laws.proofs.Held.HeldBlocks.{AgreesOnHeld}
 use Rattle.o2_laws.proofs.Members.{contains_filter}
 use Rattle.o2_laws.proofs.Agreeing.{flat_map_agree, fails_agree}
-use Rattle.o2_laws.proofs.Owned.GroupsOwned.{descriptor_held}
-use Rattle.o2_laws.proofs.Owned.OwnedTables.{held_tell_groups}
+use Rattle.o2_laws.proofs.Held.GroupsHeld.{descriptor_held}
+use Rattle.o2_laws.proofs.Held.HeldTables.{held_tell_groups}
 use Rattle.o2_laws.proofs.Kept.IndexesKeep.{held_tell_index_blocks}
 use Rattle.o2_laws.proofs.Kept.ClaimsKeep.{held_tell_claims}
 use Rattle.o2_laws.proofs.Kept.DxKeeps.{held_tell_sound_indexes}

@@ -16,13 +16,13 @@ use Rattle.o2_model.specs.Indexes.{indexed_directories}
 use Rattle.o2_model.specs.Slots.{window_clusters, is_sound_window, is_sound_truncate_header, truncate_records, is_sound_truncation}
 use Rattle.o2_model.specs.Claims.{claims_by, structure_claims, clusters_of, inode_claims, with_index, claims_before_index, claims_with_indexes, with_window_of, with_window, claims_with_windows, with_truncation, with_truncate_log, claims_with_truncations, claims_of}
 use Rattle.o2_model.specs.Failing.{failing}
-use Rattle.o2_laws.proofs.Owned.HeldBlocks.{AgreesOnHeld}
+use Rattle.o2_laws.proofs.Held.HeldBlocks.{AgreesOnHeld}
 use Rattle.o2_laws.proofs.Members.{contains_filter}
 use Rattle.o2_laws.proofs.Agreeing.{flat_map_agree, fold_agree}
-use Rattle.o2_laws.proofs.Owned.GroupsOwned.{super_claims, global_claims, backup_claims, clusters_claimed_by, structures-are}
+use Rattle.o2_laws.proofs.Held.GroupsHeld.{super_claims, global_claims, backup_claims, clusters_claimed_by, structures-are}
 use Rattle.o2_laws.proofs.SameAllocators.{inode_same}
-use Rattle.o2_laws.proofs.Owned.OwnedTells.{listed_is_inode}
-use Rattle.o2_laws.proofs.Owned.OwnedTables.{held_tell_system_files, held_tell_groups, held_tell_inodes}
+use Rattle.o2_laws.proofs.Held.HeldTells.{listed_is_inode}
+use Rattle.o2_laws.proofs.Held.HeldTables.{held_tell_system_files, held_tell_groups, held_tell_inodes}
 use Rattle.o2_laws.proofs.Kept.IndexesKeep.{held_tell_indexed, held_tell_index_clusters}
 use Rattle.o2_laws.proofs.Kept.SoundIndexesKeep.{held_tell_sound_index}
 use Rattle.o2_laws.proofs.Kept.MetadataKeeps.{held_tell_records}

@@ -15,17 +15,17 @@ use Rattle.o2_model.specs.Replay.{replayed}
 use Rattle.o2_model.specs.Failing.{failing}
 use Rattle.o2_model.specs.Consistent.{IsConsistent}
 use Rattle.o2_laws.specs.Agrees.{HasSoundJournalSupers}
-use Rattle.o2_laws.proofs.Owned.HeldBlocks.{AgreesOnHeld}
+use Rattle.o2_laws.proofs.Held.HeldBlocks.{AgreesOnHeld}
 use Rattle.o2_laws.proofs.Geometries.{found_bits}
 use Rattle.o2_laws.proofs.SameSuperblock.{superblock_same}
 use Rattle.o2_laws.proofs.NothingDirty.{none_replayed, consistent_clean, consistent_replayed}
-use Rattle.o2_laws.proofs.Owned.OwnedTree.{held_tell_tree}
-use Rattle.o2_laws.proofs.Owned.OwnedFiles.{held_tell_files}
-use Rattle.o2_laws.proofs.Owned.OwnedImages.{super_held, held_tell_volume}
+use Rattle.o2_laws.proofs.Held.HeldTree.{held_tell_tree}
+use Rattle.o2_laws.proofs.Held.HeldFiles.{held_tell_files}
+use Rattle.o2_laws.proofs.Held.HeldImages.{super_held, held_tell_volume}
 use Rattle.o2_laws.proofs.Kept.JournalsKeep.{held_tell_dirty}
 use Rattle.o2_laws.proofs.Kept.SharingKeeps.{held_tell_sharing}
 use Rattle.o2_laws.proofs.Kept.OdditiesKeep.{held_tell_structure, held_tell_geometry}
-use Rattle.o2_laws.proofs.Kept.OwnedChecks.{none_fails_over}
+use Rattle.o2_laws.proofs.Kept.KeptChecks.{none_fails_over}
 
 -- ---- volumes
 pub held_tell_contents : (v : Volume) (at : ℕ → List ℕ) → failing v ≡ [] → AgreesOnHeld v at → volume_contents (over v at) ≡ volume_contents v

@@ -13,13 +13,13 @@ use Rattle.o2_model.specs.Checks.DirBlock.{is_sound_dir_block, dir_block_faults}
 use Rattle.o2_model.specs.Checks.DirentName.{is_sound_name, dirent_name_faults}
 use Rattle.o2_model.specs.Checks.DirentDup.{are_namesakes, dirent_dup_faults}
 use Rattle.o2_model.specs.Failing.{of_each_directory, faults, failing}
-use Rattle.o2_laws.proofs.Owned.HeldBlocks.{AgreesOnHeld}
+use Rattle.o2_laws.proofs.Held.HeldBlocks.{AgreesOnHeld}
 use Rattle.o2_laws.proofs.Members.{contains_filter}
 use Rattle.o2_laws.proofs.Agreeing.{flat_map_agree, filter_agree_on}
 use Rattle.o2_laws.proofs.SameInodes.{directory_same}
-use Rattle.o2_laws.proofs.Owned.OwnedTells.{dinode_same, listed_is_inode}
-use Rattle.o2_laws.proofs.Owned.OwnedTables.{held_tell_inodes}
-use Rattle.o2_laws.proofs.Owned.OwnedDirectories.{IsDirectoryInode, blocks_of_directory, entries_of_directory, names_of_directory}
+use Rattle.o2_laws.proofs.Held.HeldTells.{dinode_same, listed_is_inode}
+use Rattle.o2_laws.proofs.Held.HeldTables.{held_tell_inodes}
+use Rattle.o2_laws.proofs.Held.HeldDirectories.{IsDirectoryInode, blocks_of_directory, entries_of_directory, names_of_directory}
 
 -- what is judged alike of each directory
 directories_same : (v : Volume) (at : ℕ → List ℕ) → failing v ≡ [] → AgreesOnHeld v at → filter (is_directory (over v at)) (inodes_of (over v at)) ≡ filter (is_directory v) (inodes_of v)

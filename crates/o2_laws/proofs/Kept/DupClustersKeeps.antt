@@ -11,11 +11,11 @@ use Rattle.o2_model.specs.Groups.{is_inode, inodes_of}
 use Rattle.o2_model.specs.Claims.{structure_claims, is_claimed}
 use Rattle.o2_model.specs.Checks.DupClusters.{ClusterUse, uses_under, uses_by, uses_of, share_tree, may_share, is_sole_or_shared}
 use Rattle.o2_model.specs.Failing.{faults, failing}
-use Rattle.o2_laws.proofs.Owned.HeldBlocks.{AgreesOnHeld}
+use Rattle.o2_laws.proofs.Held.HeldBlocks.{AgreesOnHeld}
 use Rattle.o2_laws.proofs.Members.{contains_cases, contains_filter, flat_contains}
 use Rattle.o2_laws.proofs.Agreeing.{flat_map_agree, all_agree, fails_agree}
-use Rattle.o2_laws.proofs.Owned.OwnedTells.{dinode_same, listed_is_inode}
-use Rattle.o2_laws.proofs.Owned.OwnedTables.{held_tell_inodes}
+use Rattle.o2_laws.proofs.Held.HeldTells.{dinode_same, listed_is_inode}
+use Rattle.o2_laws.proofs.Held.HeldTables.{held_tell_inodes}
 use Rattle.o2_laws.proofs.Kept.ClaimsKeep.{held_tell_structure_claims}
 use Rattle.o2_laws.proofs.Kept.MetadataKeeps.{held_tell_records}
 

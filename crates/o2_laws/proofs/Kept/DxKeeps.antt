@@ -9,7 +9,7 @@ use Rattle.o2_model.specs.Indexes.{indexed_directories, is_sound_index}
 use Rattle.o2_model.specs.Claims.{claims_before_index, claimed_clusters}
 use Rattle.o2_model.specs.Checks.Dx.{holds_index, directories_with_sound_index}
 use Rattle.o2_model.specs.Failing.{faults, failing}
-use Rattle.o2_laws.proofs.Owned.HeldBlocks.{AgreesOnHeld}
+use Rattle.o2_laws.proofs.Held.HeldBlocks.{AgreesOnHeld}
 use Rattle.o2_laws.proofs.Agreeing.{filter_agree_on, fails_agree}
 use Rattle.o2_laws.proofs.Kept.IndexesKeep.{held_tell_indexed}
 use Rattle.o2_laws.proofs.Kept.SoundIndexesKeep.{held_tell_sound_index}

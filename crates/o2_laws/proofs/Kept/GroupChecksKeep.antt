@@ -22,15 +22,15 @@ use Rattle.o2_model.specs.Checks.GroupFreeBits.{has_free_bits}
 use Rattle.o2_model.specs.Checks.ChainBits.{groups_in_chain, has_sums, has_sums_in_chains}
 use Rattle.o2_model.specs.Checks.AllocTotals.{has_totals}
 use Rattle.o2_model.specs.Failing.{faults, failing}
-use Rattle.o2_laws.proofs.Owned.HeldBlocks.{AgreesOnHeld}
+use Rattle.o2_laws.proofs.Held.HeldBlocks.{AgreesOnHeld}
 use Rattle.o2_laws.proofs.SameAllocators.{allocators_same}
 use Rattle.o2_laws.proofs.Agreeing.{all_agree, sum_by_agree, fails_agree, flat_map_agree}
 use Rattle.o2_laws.proofs.Found.{found}
 use Rattle.o2_laws.proofs.Members.{contains_filter}
-use Rattle.o2_laws.proofs.Owned.GroupsOwned.{descriptor_held}
-use Rattle.o2_laws.proofs.Owned.OwnedTells.{dinode_same, listed_is_inode}
+use Rattle.o2_laws.proofs.Held.GroupsHeld.{descriptor_held}
+use Rattle.o2_laws.proofs.Held.HeldTells.{dinode_same, listed_is_inode}
 use Rattle.o2_laws.proofs.Kept.MetadataKeeps.{held_tell_group_with_bit}
-use Rattle.o2_laws.proofs.Owned.OwnedTables.{allocator_is_inode, held_tell_system_files, held_tell_groups, held_tell_inode, held_tell_inodes}
+use Rattle.o2_laws.proofs.Held.HeldTables.{allocator_is_inode, held_tell_system_files, held_tell_groups, held_tell_inode, held_tell_inodes}
 
 -- ---- allocators
 pub held_tell_allocators : (v : Volume) (at : ℕ → List ℕ) → failing v ≡ [] → AgreesOnHeld v at → allocators (over v at) ≡ allocators v

@@ -12,11 +12,11 @@ use Rattle.o2_model.specs.Groups.{inodes_of}
 use Rattle.o2_model.specs.Indexes.{is_indexed, indexed_directories, index_extents, index_clusters, index_leaves, is_sound_index}
 use Rattle.o2_model.specs.Claims.{claims_by, claimed_clusters, structure_claims, inode_claims, with_index, claims_before_index, claims_with_indexes}
 use Rattle.o2_model.specs.Failing.{failing}
-use Rattle.o2_laws.proofs.Owned.HeldBlocks.{is_held}
+use Rattle.o2_laws.proofs.Held.HeldBlocks.{is_held}
 use Rattle.o2_laws.proofs.Members.{contains_cases}
-use Rattle.o2_laws.proofs.Owned.OwnedBlocks.{Lasts, lasts_if, lasts_fold, indexes_last}
-use Rattle.o2_laws.proofs.Owned.HeldBlocks.{holds, by_claim}
-use Rattle.o2_laws.proofs.Owned.DataOwned.{under_records}
+use Rattle.o2_laws.proofs.Held.LastingClaims.{Lasts, lasts_if, lasts_fold, indexes_last}
+use Rattle.o2_laws.proofs.Held.HeldBlocks.{holds, by_claim}
+use Rattle.o2_laws.proofs.Held.DataHeld.{under_records}
 use Rattle.o2_laws.proofs.Kept.IndexesHold.{index_holds, index_well}
 
 -- ---- rising numbers

@@ -14,15 +14,15 @@ use Rattle.o2_model.specs.Directories.{dir_blocks, directory_entries}
 use Rattle.o2_model.specs.Groups.{inodes_of}
 use Rattle.o2_model.specs.Indexes.{is_indexed, indexed_directories, index_root, is_index_root, is_inline_index, index_extents, index_blocks, all_index_blocks, index_clusters, index_leaves, dx_entries_at, is_sound_index_leaf, index_entries}
 use Rattle.o2_model.specs.Failing.{failing}
-use Rattle.o2_laws.proofs.Owned.HeldBlocks.{AgreesOnHeld}
+use Rattle.o2_laws.proofs.Held.HeldBlocks.{AgreesOnHeld}
 use Rattle.o2_laws.proofs.Members.{contains_among}
 use Rattle.o2_laws.proofs.Agreeing.{filter_agree_on, flat_map_agree}
 use Rattle.o2_laws.proofs.Readings.{list_same}
 use Rattle.o2_laws.proofs.SameEntries.{dir_blocks_same}
-use Rattle.o2_laws.proofs.Owned.DataOwned.{directory_held}
-use Rattle.o2_laws.proofs.Owned.SystemOwned.{directory_apart}
-use Rattle.o2_laws.proofs.Owned.OwnedTells.{dinode_same, listed_is_inode, held_tell_extents, held_tell_entries}
-use Rattle.o2_laws.proofs.Owned.OwnedTables.{held_tell_inodes}
+use Rattle.o2_laws.proofs.Held.DataHeld.{directory_held}
+use Rattle.o2_laws.proofs.Held.OwnInodes.{directory_apart}
+use Rattle.o2_laws.proofs.Held.HeldTells.{dinode_same, listed_is_inode, held_tell_extents, held_tell_entries}
+use Rattle.o2_laws.proofs.Held.HeldTables.{held_tell_inodes}
 use Rattle.o2_laws.proofs.Kept.IndexesHold.{indexed_is, index_well, index_reads, index_root_held, index_block_held}
 use Rattle.o2_laws.proofs.Kept.IndexClaims.{index_leaf_held}
 

@@ -20,14 +20,14 @@ use Rattle.o2_model.specs.Checks.InodeKind.{inode_kind_faults}
 use Rattle.o2_model.specs.Checks.InodeSize.{is_size_of_kind, has_sound_size, inode_size_faults}
 use Rattle.o2_model.specs.Checks.InodeClusters.{allocator_clusters, cluster_total, has_cluster_total, inode_clusters_faults}
 use Rattle.o2_model.specs.Failing.{of_each_inode, faults, failing}
-use Rattle.o2_laws.proofs.Owned.HeldBlocks.{AgreesOnHeld}
+use Rattle.o2_laws.proofs.Held.HeldBlocks.{AgreesOnHeld}
 use Rattle.o2_model.proofs.Readings.{faults_of_own_list}
 use Rattle.o2_laws.proofs.SameContents.{kind_same}
 use Rattle.o2_laws.proofs.SameAllocators.{allocators_same, own_same}
 use Rattle.o2_laws.proofs.Agreeing.{flat_map_agree, option_agree}
-use Rattle.o2_laws.proofs.Owned.OwnedTells.{dinode_same, held_tell_extents, listed_is_inode}
-use Rattle.o2_laws.proofs.Owned.OwnedDirectories.{blocks_of_directory}
-use Rattle.o2_laws.proofs.Owned.OwnedTables.{held_tell_system_files, held_tell_groups, held_tell_inodes}
+use Rattle.o2_laws.proofs.Held.HeldTells.{dinode_same, held_tell_extents, listed_is_inode}
+use Rattle.o2_laws.proofs.Held.HeldDirectories.{blocks_of_directory}
+use Rattle.o2_laws.proofs.Held.HeldTables.{held_tell_system_files, held_tell_groups, held_tell_inodes}
 
 -- what is judged alike of each inode
 pub each_inode_keeps : (v : Volume) (at : ℕ → List ℕ) (faults_of : Volume → ℕ → List ℕ) → failing v ≡ [] → AgreesOnHeld v at

@@ -11,9 +11,9 @@ use Rattle.o2_model.specs.Failing.{failing}
 use Rattle.o2_model.specs.Owned.{needs_bytes, is_owned, is_first_of_journal}
 use Rattle.o2_laws.specs.Agrees.{AgreesOnOwned, HasSoundJournalSupers}
 use Rattle.o2_laws.proofs.Agreeing.{option_agree}
-use Rattle.o2_laws.proofs.Owned.HeldBlocks.{on_held}
-use Rattle.o2_laws.proofs.Owned.DataOwned.{mapped_claimed}
-use Rattle.o2_laws.proofs.Owned.SystemOwned.{journal_is_inode}
+use Rattle.o2_laws.proofs.Held.HeldBlocks.{on_held}
+use Rattle.o2_laws.proofs.Held.DataHeld.{mapped_claimed}
+use Rattle.o2_laws.proofs.Held.OwnInodes.{journal_is_inode}
 use Rattle.o2_laws.proofs.Kept.JournalsKeep.{held_tell_journal_blocks, journal_holds}
 use Rattle.o2_laws.proofs.Kept.JournalUses.{journal_maps}
 

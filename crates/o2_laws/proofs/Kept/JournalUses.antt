@@ -19,9 +19,9 @@ use Rattle.o2_laws.proofs.NothingFails.{no_check_fails}
 use Rattle.o2_laws.proofs.Failing.{none_fails}
 use Rattle.o2_laws.proofs.Found.{found, any_map, any_flat, any_filter, passing, each_of, passes_of_all}
 use Rattle.o2_laws.proofs.WellRead.{records_are}
-use Rattle.o2_laws.proofs.Owned.DataOwned.{among_inodes, data_mapped}
-use Rattle.o2_laws.proofs.Owned.OwnedTells.{inode_listed}
-use Rattle.o2_laws.proofs.Owned.SystemOwned.{journal_is_inode}
+use Rattle.o2_laws.proofs.Held.DataHeld.{among_inodes, data_mapped}
+use Rattle.o2_laws.proofs.Held.HeldTells.{inode_listed}
+use Rattle.o2_laws.proofs.Held.OwnInodes.{journal_is_inode}
 use Rattle.o2_laws.proofs.Kept.JournalsKeep.{journal_holds}
 use Rattle.std.specs.Option.{option_map_or}
 use Rattle.o2_model.specs.Owned.{is_first_of_journal}

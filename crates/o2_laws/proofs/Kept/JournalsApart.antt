@@ -1,5 +1,5 @@
 -- Where nothing fails, a journal's clusters have no other use, so that its first block is not held.
-use Rattle.std.proofs.Common.{◌≡◌, inl, inr, ℕ, Bool, true, false, ◌&&◌, not, ◌==◌, cond, List, [], ◌∷◌, ◌++◌, refl, sym, ◌∙◌, subst, Option, Some, None}
+use Rattle.std.proofs.Common.{◌≡◌, inl, inr, ℕ, Bool, true, false, ◌&&◌, not, ◌==◌, cond, List, [], ◌∷◌, ◌++◌, refl, sym, ◌∙◌, subst, Option, Some, None, arith}
 use Rattle.std.specs.Prelude.{filter, fold}
 use Rattle.std.specs.List.{list_any, range_with_len}
 use Rattle.std.specs.Option.{option_map_or}
@@ -18,18 +18,18 @@ use Rattle.o2_model.specs.Groups.{is_inode, inodes_of}
 use Rattle.o2_model.specs.Files.{times_in}
 use Rattle.o2_model.specs.Journals.{journals}
 use Rattle.o2_model.specs.Slots.{truncate_records}
-use Rattle.o2_model.specs.Indexes.{indexed_directories, index_clusters, has_sound_index_root, has_sound_index_lists, has_own_index_clusters, has_trailers, has_sound_index_counts, is_found_in_index, is_sound_index}
+use Rattle.o2_model.specs.Indexes.{indexed_directories, index_clusters, has_own_index_clusters, is_sound_index}
 use Rattle.o2_model.specs.Claims.{claims_by, claimed_clusters, is_claimed, structure_claims, clusters_of, inode_claims, with_index, claims_with_indexes, with_window_of, with_window, claims_with_windows, with_truncation, with_truncate_log, claims_with_truncations, claims_of}
 use Rattle.o2_model.specs.Failing.{failing}
 use Rattle.o2_model.specs.Owned.{is_first_of_journal}
 use Rattle.o2_laws.specs.Agrees.{begins_journal, AgreesBesideJournals}
 use Rattle.std.proofs.lemmas.List.Sums.{length-filter}
 use Rattle.o2_laws.proofs.Found.{none_of_length, found, any_map, any_flat, passing, passes_of_all}
-use Rattle.o2_laws.proofs.Owned.OwnedBlocks.{lasts_fold}
-use Rattle.o2_laws.proofs.Owned.HeldBlocks.{AgreesOnHeld, holds_bytes, holds, is_held, held_owned}
-use Rattle.o2_laws.proofs.Owned.DataOwned.{among_inodes}
-use Rattle.o2_laws.proofs.Owned.OwnedTells.{listed_is_inode}
-use Rattle.o2_laws.proofs.Owned.SystemOwned.{journal_is_inode}
+use Rattle.o2_laws.proofs.Held.LastingClaims.{lasts_fold}
+use Rattle.o2_laws.proofs.Held.HeldBlocks.{AgreesOnHeld, holds_bytes, holds, is_held, held_owned}
+use Rattle.o2_laws.proofs.Held.DataHeld.{among_inodes}
+use Rattle.o2_laws.proofs.Held.HeldTells.{listed_is_inode}
+use Rattle.o2_laws.proofs.Held.OwnInodes.{journal_is_inode}
 use Rattle.o2_laws.proofs.Members.{contains_among}
 use Rattle.o2_laws.proofs.Kept.JournalUses.{IsApart, is_apart, journal_maps}
 
@@ -71,11 +71,7 @@ not_counted ns c none = not_kept ns c (none_of_length _ (length-filter (λ n. n 
 -- an index has its clusters for itself
 own_clusters : (v : Volume) (claimed : List ℕ) (d : ℕ) → is_sound_index v claimed d ≡ true → has_own_index_clusters v claimed d ≡ true
 unfolding is_sound_index
-own_clusters v claimed d h =
-    let to_found = (and_parts (has_sound_index_root v d && has_sound_index_lists v d && has_own_index_clusters v claimed d && has_trailers v d && has_sound_index_counts v d) (is_found_in_index v d) h).0 in
-    let to_counts = (and_parts (has_sound_index_root v d && has_sound_index_lists v d && has_own_index_clusters v claimed d && has_trailers v d) (has_sound_index_counts v d) to_found).0 in
-    let to_trailers = (and_parts (has_sound_index_root v d && has_sound_index_lists v d && has_own_index_clusters v claimed d) (has_trailers v d) to_counts).0 in
-    (and_parts (has_sound_index_root v d && has_sound_index_lists v d) (has_own_index_clusters v claimed d) to_trailers).1
+own_clusters v claimed d h = grind arith
 
 index_unheld : (v : Volume) (b d : ℕ) (ks : List Claim) → list_any (claims_cluster v b) ks ≡ true → is_sound_index v (claimed_clusters ks) d ≡ true → list_any (holds v b) (claims_by (Index d) (index_clusters v d)) ≡ false
 index_unheld v b d ks claimed sound = elim (cases_Bool (list_any (holds v b) (claims_by (Index d) (index_clusters v d)))) [

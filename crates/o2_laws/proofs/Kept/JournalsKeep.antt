@@ -1,10 +1,10 @@
 -- Where nothing fails, blocks that agree on the held ones have the same journals: their names and extents, the slots that are dirty,
 -- and, where their superblocks are sound, the checks of them.
-use Rattle.std.proofs.Common.{◌≡◌, inl, inr, ℕ, Bool, true, false, not, ◌&&◌, ◌==◌, List, [], ◌∷◌, refl, sym, ◌∙◌, ap, Option, Some, None}
+use Rattle.std.proofs.Common.{◌≡◌, inl, inr, ℕ, Bool, true, false, not, ◌==◌, List, [], ◌∷◌, refl, sym, ◌∙◌, ap, Option, Some, None, arith}
 use Rattle.std.specs.Prelude.{flat_map, map, sum_by, option_and_then}
 use Rattle.std.specs.List.{Contains}
 use Rattle.std.specs.Option.{option_map_or}
-use Rattle.std.proofs.lemmas.Bool.{cases_Bool, and_parts, eq-eqb}
+use Rattle.std.proofs.lemmas.Bool.{cases_Bool, eq-eqb}
 use Rattle.o2_model.specs.declared.check.Check.TheVariants as check
 use Rattle.o2_model.specs.declared.system_file.SlotFile.TheVariants.{Journal}
 use Rattle.o2_model.specs.declared.system_file.SystemFile.TheVariants.{OfSlot}
@@ -12,8 +12,7 @@ use Rattle.o2_model.specs.Words.{among, fails_at}
 use Rattle.o2_model.specs.Volume.{Volume, over, is_valid}
 use Rattle.o2_model.specs.Extents.{leaf_clusters}
 use Rattle.o2_model.specs.Inodes.{extents, leaf_records}
-use Rattle.o2_model.specs.LeafRecords.{blocks_under, are_without_gap, have_no_flags}
-use Rattle.o2_model.specs.Orders.{is_none_of}
+use Rattle.o2_model.specs.LeafRecords.{blocks_under, have_no_flags}
 use Rattle.o2_model.specs.SystemFiles.{slots}
 use Rattle.o2_model.specs.Journals.{named_journal, journals, is_dirty, journal_blocks, is_sound_journal_super, has_known_features}
 use Rattle.o2_model.specs.Groups.{is_inode}
@@ -26,14 +25,14 @@ use Rattle.o2_laws.specs.Agrees.{HasSoundJournalSupers}
 use Rattle.o2_laws.proofs.Failing.{none_fails}
 use Rattle.o2_laws.proofs.NothingFails.{no_check_fails}
 use Rattle.o2_laws.proofs.Members.{among_contains}
-use Rattle.o2_laws.proofs.Owned.HeldBlocks.{AgreesOnHeld}
+use Rattle.o2_laws.proofs.Held.HeldBlocks.{AgreesOnHeld}
 use Rattle.o2_laws.proofs.SameAllocators.{inode_same}
 use Rattle.o2_laws.proofs.Agreeing.{map_agree, flat_map_agree, filter_agree_on, fails_agree, option_agree}
 use Rattle.o2_laws.proofs.Found.{found, each_of}
 use Rattle.o2_model.proofs.Readings.{faults_of_own_list}
-use Rattle.o2_laws.proofs.Owned.SystemOwned.{file_is_inode, journal_is_inode}
-use Rattle.o2_laws.proofs.Owned.OwnedTells.{dinode_same, held_tell_extents}
-use Rattle.o2_laws.proofs.Owned.OwnedTables.{held_tell_system_files}
+use Rattle.o2_laws.proofs.Held.OwnInodes.{file_is_inode, journal_is_inode}
+use Rattle.o2_laws.proofs.Held.HeldTells.{dinode_same, held_tell_extents}
+use Rattle.o2_laws.proofs.Held.HeldTables.{held_tell_system_files}
 
 -- ---- which there are
 named_same : (v : Volume) (at : ℕ → List ℕ) (slot : ℕ) → failing v ≡ [] → AgreesOnHeld v at → named_journal (over v at) slot ≡ named_journal v slot
@@ -68,11 +67,7 @@ pub record IsSoundJournal (v : Volume) (b : ℕ) : Type 0 where
 
 sound_journal : (v : Volume) (b : ℕ) → is_sound_journal v b ≡ true → IsSoundJournal v b
 unfolding is_sound_journal
-sound_journal v b h =
-    let list = is_none_of (extent_faults v b) && not (is_none_of (leaf_records v b)) && are_without_gap (leaf_records v b) in
-    let last = and_parts (list && have_no_flags (leaf_records v b) && is_sound_journal_super v b) (has_known_features v b) h in
-    let before = and_parts (list && have_no_flags (leaf_records v b)) (is_sound_journal_super v b) last.0 in
-    record { plain = (and_parts list (have_no_flags (leaf_records v b)) before.0).1; sound = before.1; known = last.1 }
+sound_journal v b h = record { plain = grind arith; sound = grind arith; known = grind arith }
 
 journals_hold : (v : Volume) → failing v ≡ [] → journal_faults v ≡ []
 unfolding faults

@@ -13,15 +13,15 @@ use Rattle.o2_model.specs.RefcountTrees.{refcount_block, refcount_roots, has_lea
 use Rattle.o2_model.specs.Checks.EbNext.{leaf_blocks, next_faults, all_lists, eb_next_faults}
 use Rattle.o2_model.specs.Checks.LastEb.{last_leaf, last_eb_faults}
 use Rattle.o2_model.specs.Failing.{faults, failing}
-use Rattle.o2_laws.proofs.Owned.HeldBlocks.{is_held}
-use Rattle.o2_laws.proofs.Owned.HeldBlocks.{AgreesOnHeld}
+use Rattle.o2_laws.proofs.Held.HeldBlocks.{is_held}
+use Rattle.o2_laws.proofs.Held.HeldBlocks.{AgreesOnHeld}
 use Rattle.o2_laws.proofs.Found.{contains_first, contains_later}
 use Rattle.o2_laws.proofs.Members.{contains_one, contains_filter, contains_flat, flat_contains}
 use Rattle.o2_laws.proofs.Agreeing.{flat_map_agree, filter_agree_on, fails_agree}
 use Rattle.o2_laws.proofs.Readings.{same_has_list}
 use Rattle.o2_laws.proofs.WellRead.{extent_blocks_are}
-use Rattle.o2_laws.proofs.Owned.OwnedTells.{held_tell_extents, listed_is_inode}
-use Rattle.o2_laws.proofs.Owned.OwnedTables.{held_tell_inodes}
+use Rattle.o2_laws.proofs.Held.HeldTells.{held_tell_extents, listed_is_inode}
+use Rattle.o2_laws.proofs.Held.HeldTables.{held_tell_inodes}
 use Rattle.o2_laws.proofs.Kept.BlockNames.{has_leaf_blocks_same}
 use Rattle.o2_laws.proofs.Kept.RootsKeep.{listed_dinode_same, held_tell_roots}
 use Rattle.o2_laws.proofs.Kept.RefcountsKeep.{list_block_held, root_same, held_tell_leaf_list}

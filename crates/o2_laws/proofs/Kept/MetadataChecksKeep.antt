@@ -13,8 +13,8 @@ use Rattle.o2_model.specs.Files.{times_in}
 use Rattle.o2_model.specs.Checks.MetaBlock.{is_sound_metadata_block, meta_block_faults}
 use Rattle.o2_model.specs.Checks.MetaSuballoc.{extent_blocks, roots_and_leaves, meta_suballoc_faults}
 use Rattle.o2_model.specs.Failing.{faults, failing}
-use Rattle.o2_laws.proofs.Owned.HeldBlocks.{is_held}
-use Rattle.o2_laws.proofs.Owned.HeldBlocks.{AgreesOnHeld}
+use Rattle.o2_laws.proofs.Held.HeldBlocks.{is_held}
+use Rattle.o2_laws.proofs.Held.HeldBlocks.{AgreesOnHeld}
 use Rattle.o2_laws.proofs.Members.{contains_filter, flat_contains}
 use Rattle.o2_laws.proofs.Agreeing.{flat_map_agree, filter_agree_on, fails_agree}
 use Rattle.o2_laws.proofs.Kept.BlockNames.{refcount_block_same}

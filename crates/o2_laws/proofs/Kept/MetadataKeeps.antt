@@ -12,14 +12,14 @@ use Rattle.o2_model.specs.Groups.{is_inode, inodes_of}
 use Rattle.o2_model.specs.RefcountTrees.{refcount_roots, refcount_tree_blocks}
 use Rattle.o2_model.specs.Metadata.{Origin, is_on_bit, group_with_bit, is_on_metadata_bit, is_origin, has_origin, list_blocks, refcount_blocks, metadata_blocks}
 use Rattle.o2_model.specs.Failing.{failing}
-use Rattle.o2_laws.proofs.Owned.HeldBlocks.{is_held}
-use Rattle.o2_laws.proofs.Owned.HeldBlocks.{AgreesOnHeld}
+use Rattle.o2_laws.proofs.Held.HeldBlocks.{is_held}
+use Rattle.o2_laws.proofs.Held.HeldBlocks.{AgreesOnHeld}
 use Rattle.o2_laws.proofs.Members.{contains_flat, contains_among}
 use Rattle.o2_laws.proofs.Agreeing.{flat_map_agree}
 use Rattle.o2_laws.proofs.Readings.{same_has_list}
-use Rattle.o2_laws.proofs.Owned.BitsOwned.{metadata_held}
-use Rattle.o2_laws.proofs.Owned.OwnedTells.{metadata_holds, dinode_same, held_tell_extents, listed_is_inode}
-use Rattle.o2_laws.proofs.Owned.OwnedTables.{held_tell_groups, held_tell_inodes}
+use Rattle.o2_laws.proofs.Held.BitsHeld.{metadata_held}
+use Rattle.o2_laws.proofs.Held.HeldTells.{metadata_holds, dinode_same, held_tell_extents, listed_is_inode}
+use Rattle.o2_laws.proofs.Held.HeldTables.{held_tell_groups, held_tell_inodes}
 use Rattle.o2_laws.proofs.Kept.RootsKeep.{held_tell_roots}
 use Rattle.o2_laws.proofs.Kept.RefcountsKeep.{held_tell_tree_blocks}
 

@@ -24,15 +24,15 @@ use Rattle.o2_model.specs.AfterReplay.{VolumeGeometry, journal_length, geometry_
 use Rattle.o2_model.specs.Checks.Super.{is_sound_super}
 use Rattle.o2_model.specs.Checks.BackupSuper.{is_backup, backup_blocks}
 use Rattle.o2_model.specs.Failing.{faults, failing}
-use Rattle.o2_laws.proofs.Owned.HeldBlocks.{is_held}
-use Rattle.o2_laws.proofs.Owned.HeldBlocks.{AgreesOnHeld}
+use Rattle.o2_laws.proofs.Held.HeldBlocks.{is_held}
+use Rattle.o2_laws.proofs.Held.HeldBlocks.{AgreesOnHeld}
 use Rattle.o2_laws.proofs.Agreeing.{filter_agree_on, fails_agree}
 use Rattle.o2_laws.proofs.Found.{found, any_map, passing}
 use Rattle.o2_laws.proofs.Rising.{any_rising}
-use Rattle.o2_laws.proofs.Owned.GroupsOwned.{descriptor_held, backup_held}
-use Rattle.o2_laws.proofs.Owned.OwnedTells.{dinode_same, listed_is_inode}
-use Rattle.o2_laws.proofs.Owned.OwnedTables.{held_tell_groups, held_tell_inodes}
-use Rattle.o2_laws.proofs.Owned.OwnedImages.{super_held}
+use Rattle.o2_laws.proofs.Held.GroupsHeld.{descriptor_held, backup_held}
+use Rattle.o2_laws.proofs.Held.HeldTells.{dinode_same, listed_is_inode}
+use Rattle.o2_laws.proofs.Held.HeldTables.{held_tell_groups, held_tell_inodes}
+use Rattle.o2_laws.proofs.Held.HeldImages.{super_held}
 use Rattle.o2_laws.proofs.Kept.JournalsKeep.{held_tell_journal_lengths}
 
 -- ---- the superblock

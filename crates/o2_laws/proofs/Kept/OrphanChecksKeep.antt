@@ -20,15 +20,15 @@ use Rattle.o2_model.specs.Checks.OrphanFlag.{is_orphaned}
 use Rattle.o2_model.specs.Checks.OrphanEntry.{orphans_of_slot, orphan_entries, names_orphan}
 use Rattle.o2_model.specs.Checks.NotConnected.{is_connected}
 use Rattle.o2_model.specs.Failing.{faults, failing}
-use Rattle.o2_laws.proofs.Owned.HeldBlocks.{AgreesOnHeld}
+use Rattle.o2_laws.proofs.Held.HeldBlocks.{AgreesOnHeld}
 use Rattle.o2_laws.proofs.Agreeing.{flat_map_agree, fails_agree, option_agree}
 use Rattle.o2_laws.proofs.SameAllocators.{inode_same, own_same}
-use Rattle.o2_laws.proofs.Owned.SystemOwned.{file_is_inode, orphan_directory_is}
-use Rattle.o2_laws.proofs.Owned.OwnedTells.{dinode_same, listed_is_inode}
-use Rattle.o2_laws.proofs.Owned.OwnedTables.{held_tell_system_files, held_tell_inode, held_tell_inodes}
-use Rattle.o2_laws.proofs.Owned.OwnedDirectories.{IsDirectoryInode, names_of_directory}
-use Rattle.o2_laws.proofs.Owned.OwnedTree.{held_tell_tree}
-use Rattle.o2_laws.proofs.Owned.OwnedFiles.{held_tell_met_inodes, met_readable}
+use Rattle.o2_laws.proofs.Held.OwnInodes.{file_is_inode, orphan_directory_is}
+use Rattle.o2_laws.proofs.Held.HeldTells.{dinode_same, listed_is_inode}
+use Rattle.o2_laws.proofs.Held.HeldTables.{held_tell_system_files, held_tell_inode, held_tell_inodes}
+use Rattle.o2_laws.proofs.Held.HeldDirectories.{IsDirectoryInode, names_of_directory}
+use Rattle.o2_laws.proofs.Held.HeldTree.{held_tell_tree}
+use Rattle.o2_laws.proofs.Held.HeldFiles.{held_tell_met_inodes, met_readable}
 
 -- ---- the flag
 orphaned_same : (v : Volume) (at : ℕ → List ℕ) (b : ℕ) → at b ≡ v.at b → is_orphaned (over v at) b ≡ is_orphaned v b

@@ -12,10 +12,10 @@ use Rattle.o2_model.specs.Journals.{journals}
 use Rattle.o2_model.specs.Claims.{claims_of}
 use Rattle.o2_model.specs.Failing.{failing}
 use Rattle.o2_model.specs.Owned.{needs_bytes, is_owned, owned_blocks}
-use Rattle.o2_laws.proofs.Owned.HeldBlocks.{AgreesOnHeld}
+use Rattle.o2_laws.proofs.Held.HeldBlocks.{AgreesOnHeld}
 use Rattle.o2_laws.proofs.Agreeing.{any_agree}
-use Rattle.o2_laws.proofs.Owned.SystemOwned.{journal_is_inode}
-use Rattle.o2_laws.proofs.Owned.OwnedBlocks.{owns}
+use Rattle.o2_laws.proofs.Held.OwnInodes.{journal_is_inode}
+use Rattle.o2_laws.proofs.Held.LastingClaims.{owns}
 use Rattle.o2_laws.proofs.Kept.ClaimsKeep.{held_tell_claims}
 use Rattle.o2_laws.proofs.Kept.JournalsKeep.{held_tell_journals, held_tell_journal_blocks}
 

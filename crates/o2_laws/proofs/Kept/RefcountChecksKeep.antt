@@ -14,16 +14,16 @@ use Rattle.o2_model.specs.Checks.RefCover.{tree_references, record_clusters, is_
 use Rattle.o2_model.specs.Checks.RefCount.{has_sound_count, ref_count_faults_of, ref_count_faults}
 use Rattle.o2_model.specs.Checks.RefUsers.{ref_users_faults}
 use Rattle.o2_model.specs.Failing.{faults, failing}
-use Rattle.o2_laws.proofs.Owned.HeldBlocks.{AgreesOnHeld}
+use Rattle.o2_laws.proofs.Held.HeldBlocks.{AgreesOnHeld}
 use Rattle.o2_laws.proofs.Members.{contains_filter}
 use Rattle.o2_laws.proofs.Agreeing.{flat_map_agree, filter_agree_on, fails_agree}
-use Rattle.o2_laws.proofs.Owned.OwnedTables.{held_tell_inodes}
+use Rattle.o2_laws.proofs.Held.HeldTables.{held_tell_inodes}
 use Rattle.o2_laws.proofs.Kept.BlockNames.{refcount_block_same}
 use Rattle.o2_laws.proofs.Kept.RootsKeep.{listed_dinode_same, held_tell_roots, held_tell_tree_inodes}
 use Rattle.o2_laws.proofs.Kept.RefcountsKeep.{root_same, held_tell_leaf_list, held_tell_refcounts}
 use Rattle.o2_laws.proofs.Kept.MetadataKeeps.{held_tell_records}
 use Rattle.o2_laws.proofs.Kept.SharingKeeps.{held_tell_references}
-use Rattle.o2_laws.proofs.Owned.OwnedTells.{listed_is_inode}
+use Rattle.o2_laws.proofs.Held.HeldTells.{listed_is_inode}
 
 -- ---- the roots that are refcount blocks
 abbrev good_roots : Volume → List ℕ

@@ -13,14 +13,14 @@ use Rattle.o2_model.specs.Metadata.{list_blocks, refcount_blocks, metadata_block
 use Rattle.o2_model.specs.RefcountTrees.{Refcounts, refcount_roots, is_refcount_block, has_leaf_blocks, leaf_list, refcount_leaves, refcount_tree_blocks, refcount_records, refcount_end, is_sound_refcount, read_refcounts, read_refcount_block, record_blocks, refcounts}
 use Rattle.o2_model.specs.Checks.RefTree.{is_sound_root_block, ref_tree_faults_of, ref_tree_faults}
 use Rattle.o2_model.specs.Failing.{faults, failing}
-use Rattle.o2_laws.proofs.Owned.HeldBlocks.{is_held}
-use Rattle.o2_laws.proofs.Owned.HeldBlocks.{AgreesOnHeld}
+use Rattle.o2_laws.proofs.Held.HeldBlocks.{is_held}
+use Rattle.o2_laws.proofs.Held.HeldBlocks.{AgreesOnHeld}
 use Rattle.o2_laws.proofs.NothingFails.{no_check_fails}
 use Rattle.o2_laws.proofs.Found.{append_nothing, each_of, contains_first, contains_later, none_of}
 use Rattle.o2_laws.proofs.Members.{contains_one, contains_flat, contains_among, among_contains}
 use Rattle.o2_laws.proofs.Agreeing.{fold_agree}
-use Rattle.o2_laws.proofs.Owned.BitsOwned.{metadata_held}
-use Rattle.o2_laws.proofs.Owned.OwnedTells.{each_nothing, metadata_holds}
+use Rattle.o2_laws.proofs.Held.BitsHeld.{metadata_held}
+use Rattle.o2_laws.proofs.Held.HeldTells.{each_nothing, metadata_holds}
 use Rattle.o2_laws.proofs.Kept.BlockNames.{refcount_block_same, has_leaf_blocks_same, leaf_list_same, leaf_list_sees_blocks}
 use Rattle.o2_laws.proofs.Failing.{holds_unless}
 

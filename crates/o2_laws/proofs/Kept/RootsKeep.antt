@@ -7,11 +7,11 @@ use Rattle.o2_model.specs.Volume.{Volume, over, dinode}
 use Rattle.o2_model.specs.Groups.{inodes_of}
 use Rattle.o2_model.specs.RefcountTrees.{has_refcount, refcount_roots, inodes_of_tree}
 use Rattle.o2_model.specs.Failing.{failing}
-use Rattle.o2_laws.proofs.Owned.HeldBlocks.{AgreesOnHeld}
+use Rattle.o2_laws.proofs.Held.HeldBlocks.{AgreesOnHeld}
 use Rattle.o2_laws.proofs.Members.{contains_filter}
 use Rattle.o2_laws.proofs.Agreeing.{map_agree, filter_agree_on}
-use Rattle.o2_laws.proofs.Owned.OwnedTells.{dinode_same, listed_is_inode}
-use Rattle.o2_laws.proofs.Owned.OwnedTables.{held_tell_inodes}
+use Rattle.o2_laws.proofs.Held.HeldTells.{dinode_same, listed_is_inode}
+use Rattle.o2_laws.proofs.Held.HeldTables.{held_tell_inodes}
 
 pub listed_dinode_same : (v : Volume) (at : ℕ → List ℕ) (b : ℕ) → AgreesOnHeld v at → Contains (inodes_of v) b → at b ≡ v.at b
 listed_dinode_same v at b agrees is = dinode_same v at b agrees (listed_is_inode v b is)

@@ -11,11 +11,11 @@ use Rattle.o2_model.specs.Groups.{is_inode}
 use Rattle.o2_model.specs.Orders.{rising}
 use Rattle.o2_model.specs.Tree.{tree_inodes}
 use Rattle.o2_model.specs.Failing.{failing}
-use Rattle.o2_laws.proofs.Owned.HeldBlocks.{AgreesOnHeld}
+use Rattle.o2_laws.proofs.Held.HeldBlocks.{AgreesOnHeld}
 use Rattle.o2_laws.proofs.Agreeing.{flat_map_agree}
 use Rattle.o2_laws.proofs.Members.{contains_among, among_contains}
 use Rattle.o2_laws.proofs.Rising.{any_rising}
-use Rattle.o2_laws.proofs.Owned.OwnedFiles.{tree_readable, held_tell_tree_inodes}
+use Rattle.o2_laws.proofs.Held.HeldFiles.{tree_readable, held_tell_tree_inodes}
 use Rattle.o2_laws.proofs.Kept.MetadataKeeps.{held_tell_records}
 
 -- ---- sharing

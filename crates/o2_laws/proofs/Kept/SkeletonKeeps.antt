@@ -23,12 +23,12 @@ use Rattle.o2_model.specs.Checks.Root.{is_sound_root}
 use Rattle.o2_model.specs.Checks.Sysfile.{is_there, has_system_files, has_flags_of_name, has_kind_of_name, is_sound_system_entry, system_entries}
 use Rattle.o2_model.specs.Checks.SlotMap.{is_sound_slot_map}
 use Rattle.o2_model.specs.Failing.{faults, failing}
-use Rattle.o2_laws.proofs.Owned.HeldBlocks.{AgreesOnHeld}
+use Rattle.o2_laws.proofs.Held.HeldBlocks.{AgreesOnHeld}
 use Rattle.o2_laws.proofs.SameAllocators.{inode_same}
 use Rattle.o2_laws.proofs.Agreeing.{all_agree, fails_agree, option_agree}
-use Rattle.o2_laws.proofs.Owned.SystemOwned.{root_is_inode, sysdir_is_inode, sysdir_is_directory, file_is_inode, directory_apart}
-use Rattle.o2_laws.proofs.Owned.OwnedTells.{dinode_same, held_tell_extents, held_tell_dir_blocks, held_tell_entries}
-use Rattle.o2_laws.proofs.Owned.OwnedTables.{held_tell_system_files, held_tell_inode, bits_same}
+use Rattle.o2_laws.proofs.Held.OwnInodes.{root_is_inode, sysdir_is_inode, sysdir_is_directory, file_is_inode, directory_apart}
+use Rattle.o2_laws.proofs.Held.HeldTells.{dinode_same, held_tell_extents, held_tell_dir_blocks, held_tell_entries}
+use Rattle.o2_laws.proofs.Held.HeldTables.{held_tell_system_files, held_tell_inode, bits_same}
 use Rattle.o2_laws.proofs.SameInodes.{directory_same, valid_same}
 use Rattle.o2_laws.proofs.Kept.JournalsKeep.{extent_faults_same}
 use Rattle.o2_laws.proofs.Kept.InodeChecksKeep.{sound_size_same}

@@ -14,10 +14,10 @@ use Rattle.o2_model.specs.Claims.{claims_with_windows, claims_with_truncations, 
 use Rattle.o2_model.specs.Checks.LocalAlloc.{local_alloc_faults_of}
 use Rattle.o2_model.specs.Checks.TruncateLog.{are_sound_truncations, is_sound_truncate_log, truncate_log_faults_of}
 use Rattle.o2_model.specs.Failing.{faults, failing}
-use Rattle.o2_laws.proofs.Owned.HeldBlocks.{AgreesOnHeld}
+use Rattle.o2_laws.proofs.Held.HeldBlocks.{AgreesOnHeld}
 use Rattle.o2_laws.proofs.Agreeing.{flat_map_agree}
 use Rattle.o2_laws.proofs.SameAllocators.{inode_same}
-use Rattle.o2_laws.proofs.Owned.OwnedTables.{held_tell_system_files}
+use Rattle.o2_laws.proofs.Held.HeldTables.{held_tell_system_files}
 use Rattle.o2_laws.proofs.Kept.ClaimsKeep.{sound_window_same, truncate_header_same, truncate_records_same, sound_truncation_same, with_truncation_same, held_tell_claims_with_windows, held_tell_claims_with_truncations}
 
 -- ---- what is asked of a slot's file, where there is one

@@ -9,7 +9,7 @@ use Rattle.o2_model.specs.Allocators.{are_metadata}
 use Rattle.o2_model.specs.Indexes.{indexed_directories, index_root, index_extents, index_leaves, is_sound_index_leaf, is_own_block, has_sound_index_root, has_sound_index_lists, has_own_index_clusters, dir_block_bytes, ends_in_trailer, has_trailers, has_sound_index_counts, is_found_by_hash, is_found_in_index, is_sound_index}
 use Rattle.o2_model.specs.NameHash.{is_ascii_name}
 use Rattle.o2_model.specs.Failing.{failing}
-use Rattle.o2_laws.proofs.Owned.HeldBlocks.{AgreesOnHeld}
+use Rattle.o2_laws.proofs.Held.HeldBlocks.{AgreesOnHeld}
 use Rattle.o2_laws.proofs.Found.{found, any_map}
 use Rattle.o2_laws.proofs.Members.{contains_among}
 use Rattle.std.proofs.lemmas.Bool.{eq-eqb}

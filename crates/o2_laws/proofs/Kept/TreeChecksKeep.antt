@@ -16,16 +16,16 @@ use Rattle.o2_model.specs.Tree.{Entered, TreeWalk, names_users, tree_walk, tree_
 use Rattle.o2_model.specs.Checks.DirDots.{not_once, dot_faults}
 use Rattle.o2_model.specs.Checks.DirentType.{has_type_of_inode}
 use Rattle.o2_model.specs.Failing.{faults, failing}
-use Rattle.o2_laws.proofs.Owned.HeldBlocks.{AgreesOnHeld}
+use Rattle.o2_laws.proofs.Held.HeldBlocks.{AgreesOnHeld}
 use Rattle.o2_laws.proofs.Found.{each_of}
 use Rattle.o2_laws.proofs.Members.{contains_filter}
 use Rattle.o2_laws.proofs.Agreeing.{flat_map_agree, fails_agree}
 use Rattle.o2_laws.proofs.SameContents.{kind_same}
-use Rattle.o2_laws.proofs.Owned.OwnedTells.{dinode_same}
-use Rattle.o2_laws.proofs.Owned.OwnedTables.{held_tell_inode}
-use Rattle.o2_laws.proofs.Owned.OwnedDirectories.{IsDirectoryInode, entries_of_directory, names_of_directory}
-use Rattle.o2_laws.proofs.Owned.OwnedTree.{held_tell_users, held_tell_tree, entered_directories, tree_directory, held_tell_tree_entries}
-use Rattle.o2_laws.proofs.Owned.OwnedFiles.{held_tell_met_inodes, met_readable}
+use Rattle.o2_laws.proofs.Held.HeldTells.{dinode_same}
+use Rattle.o2_laws.proofs.Held.HeldTables.{held_tell_inode}
+use Rattle.o2_laws.proofs.Held.HeldDirectories.{IsDirectoryInode, entries_of_directory, names_of_directory}
+use Rattle.o2_laws.proofs.Held.HeldTree.{held_tell_users, held_tell_tree, entered_directories, tree_directory, held_tell_tree_entries}
+use Rattle.o2_laws.proofs.Held.HeldFiles.{held_tell_met_inodes, met_readable}
 
 -- ---- directories
 dots_same : (v : Volume) (at : ℕ → List ℕ) (d : Entered) → failing v ≡ [] → AgreesOnHeld v at → IsDirectoryInode v d.inode → dot_faults (over v at) d ≡ dot_faults v d

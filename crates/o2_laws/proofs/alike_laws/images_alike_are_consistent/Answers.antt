@@ -1,5 +1,5 @@
 use Rattle.o2_laws.proofs.Kept.ConsistentImages.{consistent_opened, consistent_alike, contents_alike, geometry_alike}
-use Rattle.o2_laws.proofs.Owned.HeldBlocks.{on_held}
+use Rattle.o2_laws.proofs.Held.HeldBlocks.{on_held}
 use Rattle.o2_laws.proofs.Kept.JournalSupers.{sound_supers}
 use Rattle.o2_disk.specs.Image.{block_at}
 use Rattle.o2_model.specs.Volume.{block_size}

@@ -1,5 +1,5 @@
-use Rattle.o2_laws.proofs.Kept.OwnedChecks.{check_keeps, none_fails_over}
-use Rattle.o2_laws.proofs.Owned.HeldBlocks.{on_held}
+use Rattle.o2_laws.proofs.Kept.KeptChecks.{check_keeps, none_fails_over}
+use Rattle.o2_laws.proofs.Held.HeldBlocks.{on_held}
 use Rattle.o2_laws.proofs.Kept.JournalSupers.{sound_supers}
 use Rattle.o2_laws.proofs.alike_laws.owned_blocks_tell_checks.Goals as goal
 

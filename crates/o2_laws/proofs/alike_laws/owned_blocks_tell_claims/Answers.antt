@@ -2,7 +2,7 @@ use Rattle.o2_laws.proofs.Kept.ClaimsKeep.{held_tell_claims}
 use Rattle.o2_laws.proofs.Kept.OwnedKeep.{held_tell_owned}
 use Rattle.o2_laws.proofs.Kept.OdditiesKeep.{held_tell_structure}
 use Rattle.o2_laws.proofs.Kept.JournalsKeep.{held_tell_dirty}
-use Rattle.o2_laws.proofs.Owned.HeldBlocks.{on_held}
+use Rattle.o2_laws.proofs.Held.HeldBlocks.{on_held}
 use Rattle.o2_laws.proofs.alike_laws.owned_blocks_tell_claims.Goals as goal
 
 pub returns-clause-claims : goal.returns-clause-claims

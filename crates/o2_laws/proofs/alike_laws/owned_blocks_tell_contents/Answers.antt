@@ -1,7 +1,7 @@
 use Rattle.o2_laws.proofs.Kept.SharingKeeps.{held_tell_sharing}
 use Rattle.o2_laws.proofs.Kept.ConsistentImages.{held_tell_contents}
 use Rattle.o2_laws.proofs.Kept.OdditiesKeep.{held_tell_geometry}
-use Rattle.o2_laws.proofs.Owned.HeldBlocks.{on_held}
+use Rattle.o2_laws.proofs.Held.HeldBlocks.{on_held}
 use Rattle.o2_laws.proofs.alike_laws.owned_blocks_tell_contents.Goals as goal
 
 pub returns-clause-sharing : goal.returns-clause-sharing

@@ -1,6 +1,6 @@
 use Rattle.o2_laws.proofs.GoodGroups.{groups_good}
-use Rattle.o2_laws.proofs.Owned.GroupsOwned.{descriptor_held, group_blocks_held}
-use Rattle.o2_laws.proofs.Owned.HeldBlocks.{held_owned}
+use Rattle.o2_laws.proofs.Held.GroupsHeld.{descriptor_held, group_blocks_held}
+use Rattle.o2_laws.proofs.Held.HeldBlocks.{held_owned}
 use Rattle.std.proofs.Common.{◌+◌}
 use Rattle.o2_laws.proofs.owned_laws.blocks_of_groups_are_owned.Goals as goal
 

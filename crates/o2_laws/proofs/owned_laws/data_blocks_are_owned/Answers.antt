@@ -1,5 +1,5 @@
-use Rattle.o2_laws.proofs.Owned.DataOwned.{data_held, content_held, directory_held}
-use Rattle.o2_laws.proofs.Owned.HeldBlocks.{held_owned}
+use Rattle.o2_laws.proofs.Held.DataHeld.{data_held, content_held, directory_held}
+use Rattle.o2_laws.proofs.Held.HeldBlocks.{held_owned}
 use Rattle.o2_laws.proofs.owned_laws.data_blocks_are_owned.Goals as goal
 
 pub returns-clause-data : goal.returns-clause-data

@@ -1,5 +1,5 @@
-use Rattle.o2_laws.proofs.Owned.BitsOwned.{inode_bit_held, dinode_held, metadata_held}
-use Rattle.o2_laws.proofs.Owned.HeldBlocks.{held_owned}
+use Rattle.o2_laws.proofs.Held.BitsHeld.{inode_bit_held, dinode_held, metadata_held}
+use Rattle.o2_laws.proofs.Held.HeldBlocks.{held_owned}
 use Rattle.o2_laws.proofs.owned_laws.dinodes_and_extent_blocks_are_owned.Goals as goal
 
 pub returns-clause-bit : goal.returns-clause-bit

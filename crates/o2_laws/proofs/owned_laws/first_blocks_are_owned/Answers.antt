@@ -1,5 +1,5 @@
-use Rattle.o2_laws.proofs.Owned.GroupsOwned.{first_held}
-use Rattle.o2_laws.proofs.Owned.HeldBlocks.{held_owned}
+use Rattle.o2_laws.proofs.Held.GroupsHeld.{first_held}
+use Rattle.o2_laws.proofs.Held.HeldBlocks.{held_owned}
 use Rattle.o2_laws.proofs.owned_laws.first_blocks_are_owned.Goals as goal
 
 pub returns : goal.returns

@@ -1,5 +1,5 @@
-use Rattle.o2_laws.proofs.Owned.OwnedImages.{super_held, held_tell_volume, held_tell_image_tree, held_tell_image_files}
-use Rattle.o2_laws.proofs.Owned.HeldBlocks.{held_owned, on_held}
+use Rattle.o2_laws.proofs.Held.HeldImages.{super_held, held_tell_volume, held_tell_image_tree, held_tell_image_files}
+use Rattle.o2_laws.proofs.Held.HeldBlocks.{held_owned, on_held}
 use Rattle.std.proofs.Common.{◌^◌}
 use Rattle.o2_disk.specs.Image.{block_at}
 use Rattle.o2_model.specs.Volume.{volume_of}

@@ -1,5 +1,5 @@
-use Rattle.o2_laws.proofs.Owned.OwnedTells.{held_tell_extents, held_tell_entries, held_tell_content, held_tell_file}
-use Rattle.o2_laws.proofs.Owned.HeldBlocks.{on_held}
+use Rattle.o2_laws.proofs.Held.HeldTells.{held_tell_extents, held_tell_entries, held_tell_content, held_tell_file}
+use Rattle.o2_laws.proofs.Held.HeldBlocks.{on_held}
 use Rattle.o2_laws.proofs.owned_laws.owned_blocks_tell_inodes.Goals as goal
 
 pub returns-clause-extents : goal.returns-clause-extents

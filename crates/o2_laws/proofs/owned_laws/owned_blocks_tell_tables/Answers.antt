@@ -1,5 +1,5 @@
-use Rattle.o2_laws.proofs.Owned.OwnedTables.{held_tell_system_files, held_tell_groups, held_tell_inodes}
-use Rattle.o2_laws.proofs.Owned.HeldBlocks.{on_held}
+use Rattle.o2_laws.proofs.Held.HeldTables.{held_tell_system_files, held_tell_groups, held_tell_inodes}
+use Rattle.o2_laws.proofs.Held.HeldBlocks.{on_held}
 use Rattle.o2_laws.proofs.owned_laws.owned_blocks_tell_tables.Goals as goal
 
 pub returns-clause-files : goal.returns-clause-files

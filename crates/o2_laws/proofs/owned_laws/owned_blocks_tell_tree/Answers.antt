@@ -1,6 +1,6 @@
-use Rattle.o2_laws.proofs.Owned.OwnedFiles.{held_tell_files}
-use Rattle.o2_laws.proofs.Owned.OwnedTree.{held_tell_tree}
-use Rattle.o2_laws.proofs.Owned.HeldBlocks.{on_held}
+use Rattle.o2_laws.proofs.Held.HeldFiles.{held_tell_files}
+use Rattle.o2_laws.proofs.Held.HeldTree.{held_tell_tree}
+use Rattle.o2_laws.proofs.Held.HeldBlocks.{on_held}
 use Rattle.o2_laws.proofs.owned_laws.owned_blocks_tell_tree.Goals as goal
 
 pub returns-clause-files : goal.returns-clause-files

@@ -21,13 +21,13 @@ use Rattle.o2_model.specs.Journals.{journals}
 use Rattle.o2_model.specs.Groups.{is_inode, inodes_of, has_inode_bit}
 use Rattle.o2_laws.specs.Frames.{content_blocks}
 use Rattle.o2_model.specs.Claims.{claims_by, clusters_of, inode_claims, claims_of}
-use Rattle.o2_laws.proofs.Owned.HeldBlocks.{holds_bytes, is_held}
+use Rattle.o2_laws.proofs.Held.HeldBlocks.{holds_bytes, is_held}
 use Rattle.o2_laws.proofs.Found.{found, any_map, any_flat, any_filter, any_range, passing, range_bounds, each_of}
 use Rattle.o2_laws.proofs.Members.{among_contains, among_one}
-use Rattle.o2_laws.proofs.Owned.HeldBlocks.{inodes_find, by_need}
-use Rattle.o2_laws.proofs.Owned.GroupsOwned.{cluster_in}
+use Rattle.o2_laws.proofs.Held.HeldBlocks.{inodes_find, by_need}
+use Rattle.o2_laws.proofs.Held.GroupsHeld.{cluster_in}
 use Rattle.o2_laws.proofs.WellRead.{BeginsCluster, extents_well, records_are}
-use Rattle.o2_laws.proofs.Owned.BitsOwned.{dinode_held}
+use Rattle.o2_laws.proofs.Held.BitsHeld.{dinode_held}
 
 -- ---- the claims of an inode
 inode_below : (v : Volume) (b : ℕ) → is_valid v b ≡ true → b < blocks v

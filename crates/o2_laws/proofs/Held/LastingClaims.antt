@@ -1,4 +1,4 @@
--- What a claim owns, and that the claims of structures and inodes stay among all claims.
+-- The claims of structures and inodes stay among all claims, and what a claim owns.
 use Rattle.std.proofs.Common.{◌≡◌, ℕ, Bool, true, false, ◌&&◌, ◌==◌, cond, List, [], ◌∷◌, ◌++◌, Option, Some, None}
 use Rattle.std.specs.Prelude.{fold}
 use Rattle.std.specs.List.{Contains, range_with_len}

@@ -12,13 +12,13 @@ use Rattle.o2_model.specs.Files.{files_of}
 use Rattle.o2_model.specs.Tree.{tree_walk}
 use Rattle.o2_model.specs.Checks.Super.{is_super_dinode, has_sound_sizes, has_sound_first_group, has_sound_directories, is_sound_super, super_faults}
 use Rattle.o2_model.specs.Failing.{faults, failing}
-use Rattle.o2_laws.proofs.Owned.HeldBlocks.{is_held}
-use Rattle.o2_laws.proofs.Owned.HeldBlocks.{AgreesOnHeld}
+use Rattle.o2_laws.proofs.Held.HeldBlocks.{is_held}
+use Rattle.o2_laws.proofs.Held.HeldBlocks.{AgreesOnHeld}
 use Rattle.o2_laws.proofs.NothingFails.{no_check_fails}
 use Rattle.o2_laws.proofs.Failing.{volume_of-over, holds_unless}
-use Rattle.o2_laws.proofs.Owned.GroupsOwned.{first_held}
-use Rattle.o2_laws.proofs.Owned.OwnedTree.{held_tell_tree}
-use Rattle.o2_laws.proofs.Owned.OwnedFiles.{held_tell_files}
+use Rattle.o2_laws.proofs.Held.GroupsHeld.{first_held}
+use Rattle.o2_laws.proofs.Held.HeldTree.{held_tell_tree}
+use Rattle.o2_laws.proofs.Held.HeldFiles.{held_tell_files}
 
 -- ---- the superblock
 pub super_holds : (v : Volume) → failing v ≡ [] → super_faults v ≡ []

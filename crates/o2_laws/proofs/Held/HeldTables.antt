@@ -20,16 +20,16 @@ use Rattle.o2_model.specs.Allocators.{are_inodes, is_allocator, allocator_if, al
 use Rattle.o2_model.specs.Groups.{group_walk, groups, is_bit_set_in, bit_of_block, is_on_set_bit, is_inode, inodes_of, has_inode_bit}
 use Rattle.o2_laws.specs.Frames.{SameOn, SameSystemFiles, group_blocks}
 use Rattle.o2_model.specs.Failing.{faults, failing}
-use Rattle.o2_laws.proofs.Owned.HeldBlocks.{AgreesOnHeld}
+use Rattle.o2_laws.proofs.Held.HeldBlocks.{AgreesOnHeld}
 use Rattle.o2_laws.proofs.NothingFails.{no_check_fails}
 use Rattle.o2_laws.proofs.SameGroups.{groups_keep}
 use Rattle.o2_laws.proofs.SameAllocators.{allocators_same}
 use Rattle.o2_laws.proofs.Found.{any_map, any_flat, passing}
 use Rattle.o2_laws.proofs.Agreeing.{any_agree}
-use Rattle.o2_laws.proofs.Owned.GroupsOwned.{descriptor_held}
-use Rattle.o2_laws.proofs.Owned.BitsOwned.{inode_bit_held}
-use Rattle.o2_laws.proofs.Owned.SystemOwned.{sysdir_is_inode, sysdir_is_directory, file_is_inode, directory_apart}
-use Rattle.o2_laws.proofs.Owned.OwnedTells.{dinode_same, held_tell_entries}
+use Rattle.o2_laws.proofs.Held.GroupsHeld.{descriptor_held}
+use Rattle.o2_laws.proofs.Held.BitsHeld.{inode_bit_held}
+use Rattle.o2_laws.proofs.Held.OwnInodes.{sysdir_is_inode, sysdir_is_directory, file_is_inode, directory_apart}
+use Rattle.o2_laws.proofs.Held.HeldTells.{dinode_same, held_tell_entries}
 use Rattle.o2_laws.proofs.SameInodes.{valid_same}
 
 -- ---- the volume's own files

@@ -18,9 +18,9 @@ use Rattle.o2_model.specs.ClusterGroups.{group_size, group_count, group_place, g
 use Rattle.o2_model.specs.Allocators.{are_clusters}
 use Rattle.o2_model.specs.Groups.{group_desc, is_bitmap_group, is_block_group, is_good_group, is_of_clusters, group_clusters, groups}
 use Rattle.o2_model.specs.Claims.{claims_by, structure_claims}
-use Rattle.o2_laws.proofs.Owned.HeldBlocks.{is_held}
+use Rattle.o2_laws.proofs.Held.HeldBlocks.{is_held}
 use Rattle.o2_laws.proofs.Found.{any_map, any_flat, any_filter, any_range, found}
-use Rattle.o2_laws.proofs.Owned.HeldBlocks.{holds, structure_held, by_claim}
+use Rattle.o2_laws.proofs.Held.HeldBlocks.{holds, structure_held, by_claim}
 use Rattle.o2_laws.proofs.GoodGroups.{groups_good}
 
 -- ---- up to the first group

@@ -17,8 +17,8 @@ use Rattle.o2_model.specs.Metadata.{list_blocks, refcount_blocks, metadata_block
 use Rattle.o2_model.specs.Checks.Extent.{extent_faults}
 use Rattle.o2_model.specs.Checks.MetaBlock.{meta_block_faults}
 use Rattle.o2_model.specs.Failing.{faults, failing}
-use Rattle.o2_laws.proofs.Owned.HeldBlocks.{is_held}
-use Rattle.o2_laws.proofs.Owned.HeldBlocks.{AgreesOnHeld}
+use Rattle.o2_laws.proofs.Held.HeldBlocks.{is_held}
+use Rattle.o2_laws.proofs.Held.HeldBlocks.{AgreesOnHeld}
 use Rattle.o2_laws.proofs.NothingFails.{no_check_fails}
 use Rattle.o2_laws.proofs.Readings.{extents_same}
 use Rattle.o2_model.proofs.Readings.{faults_of_own_list}
@@ -27,8 +27,8 @@ use Rattle.o2_laws.proofs.SameContents.{content_same, file_same}
 use Rattle.o2_laws.proofs.Found.{append_nothing, any_flat, each_of}
 use Rattle.o2_laws.proofs.Members.{contains_filter, among_contains}
 use Rattle.o2_laws.proofs.WellRead.{extents_well, extent_blocks_are}
-use Rattle.o2_laws.proofs.Owned.BitsOwned.{dinode_held, metadata_held}
-use Rattle.o2_laws.proofs.Owned.DataOwned.{among_inodes, content_held, directory_held}
+use Rattle.o2_laws.proofs.Held.BitsHeld.{dinode_held, metadata_held}
+use Rattle.o2_laws.proofs.Held.DataHeld.{among_inodes, content_held, directory_held}
 
 -- ---- checks
 pub each_nothing : {A B : Type 0} (f : A → List B) (xs : List A) → flat_map f xs ≡ [] → AllByRecursion (λ x. f x ≡ []) xs

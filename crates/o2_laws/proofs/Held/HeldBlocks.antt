@@ -1,5 +1,4 @@
--- Which blocks are held: those that some claim's owner other than a journal needs. They are owned, and the blocks that are owned and
--- not held are first blocks of journals.
+-- Which blocks are held: those that some claim's owner needs, other than a journal. They are owned.
 use Rattle.std.proofs.Common.{◌≡◌, ℕ, Bool, true, false, ◌&&◌, not, ◌==◌, List, ◌++◌, ◌∙◌}
 use Rattle.std.specs.List.{list_any}
 use Rattle.std.proofs.lemmas.Bool.{and_from, and_parts, or_left, or_right, eqb-true}
@@ -15,7 +14,7 @@ use Rattle.o2_model.specs.Claims.{claims_by, structure_claims, inode_claims, cla
 use Rattle.o2_model.specs.Owned.{needs_bytes, is_owned}
 use Rattle.o2_laws.specs.Agrees.{AgreesOnOwned}
 use Rattle.o2_laws.proofs.Found.{found, any_map, passing}
-use Rattle.o2_laws.proofs.Owned.OwnedBlocks.{claims_last, claimed_owned}
+use Rattle.o2_laws.proofs.Held.LastingClaims.{claims_last, claimed_owned}
 
 -- ---- which they are
 -- the owner of a cluster needs all blocks of it: it is no journal, no window and no truncate record

@@ -6,9 +6,9 @@ use Rattle.o2_model.specs.Inodes.{is_directory}
 use Rattle.o2_model.specs.Directories.{is_dot, dir_blocks, directory_entries, named_entries}
 use Rattle.o2_model.specs.Groups.{is_inode}
 use Rattle.o2_model.specs.Failing.{failing}
-use Rattle.o2_laws.proofs.Owned.HeldBlocks.{AgreesOnHeld}
-use Rattle.o2_laws.proofs.Owned.SystemOwned.{directory_apart}
-use Rattle.o2_laws.proofs.Owned.OwnedTells.{held_tell_dir_blocks, held_tell_entries}
+use Rattle.o2_laws.proofs.Held.HeldBlocks.{AgreesOnHeld}
+use Rattle.o2_laws.proofs.Held.OwnInodes.{directory_apart}
+use Rattle.o2_laws.proofs.Held.HeldTells.{held_tell_dir_blocks, held_tell_entries}
 
 -- an inode that is a directory
 pub record IsDirectoryInode (v : Volume) (d : ℕ) : Type 0 where

@@ -17,16 +17,16 @@ use Rattle.o2_model.specs.Journals.{journals}
 use Rattle.o2_laws.specs.Frames.{entered_inodes as inodes_entered}
 use Rattle.o2_model.specs.Tree.{TreeWalk, names_users, path_cmp, tree_walk, met_inodes, tree_inodes}
 use Rattle.o2_model.specs.Failing.{failing}
-use Rattle.o2_laws.proofs.Owned.HeldBlocks.{AgreesOnHeld}
+use Rattle.o2_laws.proofs.Held.HeldBlocks.{AgreesOnHeld}
 use Rattle.o2_laws.proofs.Agreeing.{map_agree}
 use Rattle.o2_laws.proofs.FirstNames.{found_name, one_at_only}
 use Rattle.o2_laws.proofs.Found.{all_map, all_push, each_of}
 use Rattle.o2_laws.proofs.Members.{flat_contains}
 use Rattle.o2_laws.proofs.Rising.{all_rising}
 use Rattle.o2_laws.proofs.TreeWalks.{Keeps, users_inode, walk_keeps}
-use Rattle.o2_laws.proofs.Owned.SystemOwned.{root_is_inode, root_is_directory, directory_apart, users_apart}
-use Rattle.o2_laws.proofs.Owned.OwnedTells.{held_tell_file}
-use Rattle.o2_laws.proofs.Owned.OwnedTree.{held_tell_tree}
+use Rattle.o2_laws.proofs.Held.OwnInodes.{root_is_inode, root_is_directory, directory_apart, users_apart}
+use Rattle.o2_laws.proofs.Held.HeldTells.{held_tell_file}
+use Rattle.o2_laws.proofs.Held.HeldTree.{held_tell_tree}
 
 -- ---- what has a name
 -- an inode that is no journal

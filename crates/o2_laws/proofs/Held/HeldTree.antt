@@ -7,17 +7,17 @@ use Rattle.o2_model.specs.Volume.{Volume, over, blocks}
 use Rattle.o2_model.specs.Directories.{Entry, directory_entries, named_entries}
 use Rattle.o2_model.specs.Tree.{TreeWalk, names_users, followed, tree_walk, tree_directories, tree_entries}
 use Rattle.o2_model.specs.Failing.{failing}
-use Rattle.o2_laws.proofs.Owned.HeldBlocks.{AgreesOnHeld}
+use Rattle.o2_laws.proofs.Held.HeldBlocks.{AgreesOnHeld}
 use Rattle.o2_laws.proofs.Found.{all_map, each_of}
 use Rattle.o2_laws.proofs.Agreeing.{flat_map_agree}
 use Rattle.o2_laws.proofs.SameAllocators.{own_same}
-use Rattle.o2_laws.proofs.Owned.SystemOwned.{root_is_inode, root_is_directory}
-use Rattle.o2_laws.proofs.Owned.OwnedTells.{dinode_same}
-use Rattle.o2_laws.proofs.Owned.OwnedDirectories.{IsDirectoryInode, entries_of_directory, names_of_directory}
+use Rattle.o2_laws.proofs.Held.OwnInodes.{root_is_inode, root_is_directory}
+use Rattle.o2_laws.proofs.Held.HeldTells.{dinode_same}
+use Rattle.o2_laws.proofs.Held.HeldDirectories.{IsDirectoryInode, entries_of_directory, names_of_directory}
 use Rattle.o2_laws.proofs.SameTree.{tree_walk-same}
 use Rattle.o2_laws.proofs.SameInodes.{users_same, directory_same}
 use Rattle.o2_laws.proofs.TreeWalks.{StaysGood, walk_good}
-use Rattle.o2_laws.proofs.Owned.OwnedTables.{held_tell_system_files, held_tell_inode}
+use Rattle.o2_laws.proofs.Held.HeldTables.{held_tell_system_files, held_tell_inode}
 
 -- ---- what the walk reads
 stays_in_directories : (v : Volume) → failing v ≡ [] → StaysGood v (IsDirectoryInode v)

@@ -1,5 +1,5 @@
 -- Where nothing fails, the volume's own files are inodes, and no directory is a journal.
-use Rattle.std.proofs.Common.{◌≡◌, inl, inr, ℕ, Bool, true, false, ◌&&◌, ◌||◌, not, ◌==◌, List, [], ◌∷◌, ◌++◌, refl, sym, ◌∙◌, ap, subst, Option, Some, None}
+use Rattle.std.proofs.Common.{◌≡◌, inl, inr, ℕ, Bool, true, false, ◌&&◌, ◌||◌, not, ◌==◌, List, [], ◌∷◌, ◌++◌, refl, sym, ◌∙◌, ap, subst, Option, Some, None, arith}
 use Rattle.std.specs.Prelude.{filter, codes, bytes_eq, is_some, option_map}
 use Rattle.std.specs.List.{AllByRecursion, Contains}
 use Rattle.std.specs.Option.{option_map_or}
@@ -143,17 +143,9 @@ named_file v file b none h =
       own = subst (λ x. among (own_inodes v) x ≡ true) entry.2 (entry_own v entry.0 at.0 no_dots);
     }
 
-first_two : (a b c d e f g : Bool) → (a && b && c && d && e && f && g) ≡ true → (a ≡ true) × (b ≡ true)
-first_two a b c d e f g h =
-    let to_f = (and_parts (a && b && c && d && e && f) g h).0 in
-    let to_e = (and_parts (a && b && c && d && e) f to_f).0 in
-    let to_d = (and_parts (a && b && c && d) e to_e).0 in
-    let to_c = (and_parts (a && b && c) d to_d).0 in
-    and_parts a b (and_parts (a && b) c to_c).0
-
 sound_parts : (v : Volume) (e : Entry) → is_sound_system_entry v e ≡ true → (is_inode v e.inode ≡ true) × (has_kind_of_name v e ≡ true)
 unfolding is_sound_system_entry
-sound_parts v e h = first_two (is_inode v e.inode) (has_kind_of_name v e) _ _ _ _ _ h
+sound_parts v e h = (grind arith, grind arith)
 
 -- a file that is found is an inode
 pub file_is_inode : (v : Volume) (file : SystemFile) (b : ℕ) → failing v ≡ [] → system_inode v file ≡ Some b → is_inode v b ≡ true

@@ -14,10 +14,10 @@ use Rattle.o2_model.specs.Groups.{block_of_bit, bit_of_block, is_bit_set, is_of_
 use Rattle.o2_model.specs.Metadata.{is_on_bit, group_with_bit, is_on_metadata_bit, metadata_blocks}
 use Rattle.o2_model.specs.Checks.MetaBlock.{is_sound_metadata_block, meta_block_faults}
 use Rattle.o2_model.specs.Files.{times_in}
-use Rattle.o2_laws.proofs.Owned.HeldBlocks.{is_held}
+use Rattle.o2_laws.proofs.Held.HeldBlocks.{is_held}
 use Rattle.o2_laws.proofs.Failing.{none_fails}
 use Rattle.o2_laws.proofs.Found.{passing, find_passing, range_bounds, each_of}
-use Rattle.o2_laws.proofs.Owned.GroupsOwned.{group_blocks_held}
+use Rattle.o2_laws.proofs.Held.GroupsHeld.{group_blocks_held}
 
 -- ---- on a bit
 -- what has a test is some

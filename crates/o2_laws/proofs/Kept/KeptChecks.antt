@@ -6,7 +6,7 @@ use Rattle.o2_model.specs.Volume.{Volume, over}
 use Rattle.o2_model.specs.Orders.{rising}
 use Rattle.o2_model.specs.Failing.{faults, skeleton, further, pairs, first_or_else, failing}
 use Rattle.o2_laws.specs.Agrees.{HasSoundJournalSupers}
-use Rattle.o2_laws.proofs.Owned.HeldBlocks.{AgreesOnHeld}
+use Rattle.o2_laws.proofs.Held.HeldBlocks.{AgreesOnHeld}
 use Rattle.o2_laws.proofs.Kept.OdditiesKeep.{keeps_super, keeps_backup_super}
 use Rattle.o2_laws.proofs.Kept.SkeletonKeeps.{keeps_sysdir, keeps_sysfile, keeps_root, keeps_slot_map}
 use Rattle.o2_laws.proofs.Kept.GroupChecksKeep.{keeps_chain_header, keeps_chain_link, keeps_group_missing, keeps_inode_alloc_bit, keeps_inode_suballoc, keeps_group_chain, keeps_group_free_bits, keeps_chain_bits, keeps_alloc_totals}
