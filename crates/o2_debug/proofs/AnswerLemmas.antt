@@ -14,7 +14,7 @@ use Rattle.o2_dir.specs.Fails.{FailsNone, FailsFirst}
 use Rattle.o2_dir.specs.FileData.{HasBytes, DataFailsFirst}
 use Rattle.o2_debug.specs.declared.query.Query.TheVariants.{Ls, Stat, Cat}
 use Rattle.o2_debug.specs.Objects.{IsSound}
-use Rattle.o2_debug.specs.Answers.{Answers, IsOfOtherKind, FailsFor}
+use Rattle.o2_debug.specs.Answers.{IsAnswerable, Answers, IsOfOtherKind, FailsFor}
 use Rattle.o2_debug.specs.Taken.{Takes}
 use Rattle.o2_debug.specs.Texts.{ls_text, stat_text, cat_text}
 
@@ -54,8 +54,11 @@ unfolding is_file is_link
 file_has_bytes v b valid is = record { valid = valid; kind = rw is refl }
 
 module _ (v : Volume) (b : ℕ) (path : List ℕ) (sound : IsSound v b) where
+  pub ls_answerable : is_directory_kind (kind v b) ≡ true → FailsNone v b → IsAnswerable (Ls path) v b
+  ls_answerable is none = record { sound = sound; kind = is; entries = none.blocks }
+
   pub ls_answers : {old new : SinkState} → is_directory_kind (kind v b) ≡ true → FailsNone v b → Takes old new (ls_text v b) → Answers (Ls path) v b old new
-  ls_answers is none takes = record { sound = sound; kind = is; entries = none.blocks; taken = takes }
+  ls_answers is none takes = record { answered = ls_answerable is none; taken = takes }
 
   pub ls_fails : (check : Check) (at : ℕ) → is_directory_kind (kind v b) ≡ true → FailsFirst v b check at → FailsFor (Ls path) v b check at
   ls_fails check at is fails =
@@ -65,11 +68,17 @@ module _ (v : Volume) (b : ℕ) (path : List ℕ) (sound : IsSound v b) where
   pub no_directory : is_directory_kind (kind v b) ≡ false → IsOfOtherKind (Ls path) v b
   no_directory is = record { sound = sound; kind = is }
 
+  pub stat_answerable : IsAnswerable (Stat path) v b
+  stat_answerable = record { sound = sound; kind = refl; entries = tt }
+
   pub stat_answers : {old new : SinkState} → Takes old new (stat_text v b) → Answers (Stat path) v b old new
-  stat_answers takes = record { sound = sound; kind = refl; entries = tt; taken = takes }
+  stat_answers takes = record { answered = stat_answerable; taken = takes }
+
+  pub cat_answerable : is_file_kind (kind v b) ≡ true → IsAnswerable (Cat path) v b
+  cat_answerable is = record { sound = sound; kind = is; entries = tt }
 
   pub cat_answers : {old new : SinkState} → is_file_kind (kind v b) ≡ true → Takes old new (cat_text v b) → Answers (Cat path) v b old new
-  cat_answers is takes = record { sound = sound; kind = is; entries = tt; taken = takes }
+  cat_answers is takes = record { answered = cat_answerable is; taken = takes }
 
   pub no_file : is_file_kind (kind v b) ≡ false → IsOfOtherKind (Cat path) v b
   no_file is = record { sound = sound; kind = is }

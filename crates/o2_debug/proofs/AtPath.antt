@@ -4,10 +4,11 @@ use Rattle.std.specs.List.{list_all, join_with_byte}
 use Rattle.o2_disk.specs.Output.{SinkState}
 use Rattle.o2_model.specs.declared.geo.Geo.{Geo}
 use Rattle.o2_model.specs.Volume.{Volume, is_valid}
-use Rattle.o2_model.specs.Directories.{Entry}
 use Rattle.o2_dir.specs.PathTexts.{is_name, AreJoinedNames, IsPath}
 use Rattle.o2_dir.specs.Paths.{Begins, Leads}
-use Rattle.o2_debug.specs.Commands.{HasStarts}
+use Rattle.o2_debug.specs.declared.query.Query.{Query}
+use Rattle.o2_debug.specs.Answers.{path_of, text_of, IsAnswerable}
+use Rattle.o2_debug.specs.Commands.{HasStarts, IsAnswerText}
 use Rattle.o2_debug.specs.Taken.{TakesSome}
 use Rattle.o2_debug.proofs.Fronts.{takes_nothing, all_is_some, some_of_both}
 
@@ -57,12 +58,15 @@ leads_to_valid v text i path has leads =
     let from = beginning v.geo text path in
     along v from.names from.start i (start_is_valid v text from.start from.names has from.begins) (leads from.start from.names from.begins)
 
--- names lead to one inode
-pub leads_once : (v : Volume) (names : List (List ℕ)) (start i j : ℕ) → Leads v start names i → Leads v start names j → i ≡ j
-leads_once v [] start i j one two = one ∙ sym two
-leads_once v (n ∷ names) start i j one two =
-    let same : two.0 ≡ one.0 = (let a = one.1.first in let b = two.1.first in cc (a, b)) in
-    leads_once v names one.0.inode i j one.2 (subst (λ (e : Entry). Leads v e.inode names j) same two.2)
+-- the text of the inode that the path leads to
+pub answer_text : (query : Query) (v : Volume) (text : List ℕ) (i : ℕ) → text ≡ path_of query → ((start : ℕ) (names : List (List ℕ)) → Begins v.geo text start names → Leads v start names i) → IsAnswerable query v i
+    → IsAnswerText query v (text_of query v i)
+answer_text query v text i is leads answered = record {
+  inode = i;
+  leads = subst (λ (t : List ℕ). (start : ℕ) (names : List (List ℕ)) → Begins v.geo t start names → Leads v start names i) is leads;
+  answered = answered;
+  is = refl;
+}
 
 -- nothing was put
 pub nothing_put : (d : SinkState) (text : List ℕ) → TakesSome d d text

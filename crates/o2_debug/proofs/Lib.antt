@@ -5,3 +5,4 @@ pub mod Fronts
 pub mod Judged
 pub mod Starts
 pub mod TextLemmas
+pub mod WholeDevice

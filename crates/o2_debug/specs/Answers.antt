@@ -11,7 +11,7 @@ use Rattle.o2_model.specs.Checks.DirBlock.{dir_block_faults}
 use Rattle.o2_debug.specs.declared.query.Query.{Query}
 use Rattle.o2_debug.specs.declared.query.Query.TheVariants.{Ls, Stat, Cat}
 use Rattle.o2_debug.specs.Objects.{IsSound, FailsAsObject}
-use Rattle.o2_debug.specs.Taken.{Takes}
+use Rattle.o2_debug.specs.Taken.{Takes, TakesSome}
 use Rattle.o2_debug.specs.Texts.{ls_text, stat_text, cat_text}
 
 -- the path of the query
@@ -38,12 +38,25 @@ HasEntries (Ls path) v b = dir_block_faults v b ≡ []
 HasEntries (Stat path) v b = Unit {0}
 HasEntries (Cat path) v b = Unit {0}
 
--- The sink took the text of the inode, which is sound and of a kind that the query is for.
-pub record Answers (query : Query) (v : Volume) (b : ℕ) (old new : SinkState) : Type 0 where
+-- the query is answered for this inode: it is sound, of a kind that the query is for, and has its entries where they are asked for
+pub record IsAnswerable (query : Query) (v : Volume) (b : ℕ) : Type 0 where
   pub sound : IsSound v b
   pub kind : is_for query (kind v b) ≡ true
   pub entries : HasEntries query v b
+
+-- the query is answered for the inode, and the sink took its text
+pub record Answers (query : Query) (v : Volume) (b : ℕ) (old new : SinkState) : Type 0 where
+  pub answered : IsAnswerable query v b
   pub taken : Takes old new (text_of query v b)
+
+-- or the text's first bytes, maybe none or all
+pub record AnswersSome (query : Query) (v : Volume) (b : ℕ) (old new : SinkState) : Type 0 where
+  pub answered : IsAnswerable query v b
+  pub some : TakesSome old new (text_of query v b)
+
+-- nothing was put, or first bytes of a text that answers the query
+abbrev pub BeginsAnswer : Query → Volume → ℕ → SinkState → SinkState → Type 0
+BeginsAnswer query v b old new = (new ≡ old) ⊎ AnswersSome query v b old new
 
 -- the inode is sound, but of a kind that the query is not for
 pub record IsOfOtherKind (query : Query) (v : Volume) (b : ℕ) : Type 0 where

@@ -5,23 +5,36 @@ use Rattle.o2_model.specs.declared.check.Check.{Check}
 use Rattle.o2_model.specs.Volume.{Volume, is_valid}
 use Rattle.o2_dir.specs.Paths.{Begins, Leads, OnTheWay, Lacks, IsNoDirectory, FailsAt}
 use Rattle.o2_debug.specs.declared.query.Query.{Query}
-use Rattle.o2_debug.specs.Answers.{path_of, text_of, Answers, IsOfOtherKind, FailsFor}
-use Rattle.o2_debug.specs.Taken.{TakesSome}
+use Rattle.o2_debug.specs.Answers.{path_of, text_of, IsAnswerable, IsOfOtherKind, FailsFor}
+use Rattle.o2_debug.specs.Taken.{Takes, TakesSome}
 
 -- the inodes at which paths begin are valid dinodes
 pub record HasStarts (v : Volume) : Type 0 where
   pub root : is_valid v v.geo.root ≡ true
   pub sysdir : is_valid v v.geo.sysdir ≡ true
 
--- The path leads to an inode, and the sink took its text.
-abbrev pub AnswersAt : Query → Volume → SinkState → SinkState → Type 0
-AnswersAt query v old new = (start : ℕ) (names : List (List ℕ)) → Begins v.geo (path_of query) start names
-    → (b : ℕ) × (Leads v start names b × Answers query v b old new)
+-- the query's path leads to this inode
+abbrev pub PathLeads : Query → Volume → ℕ → Type 0
+PathLeads query v b = (start : ℕ) (names : List (List ℕ)) → Begins v.geo (path_of query) start names → Leads v start names b
 
--- where the path leads to an inode, the sink took the first bytes of its text, maybe none or all
-abbrev pub TakesSomeAt : Query → Volume → SinkState → SinkState → Type 0
-TakesSomeAt query v old new = (start : ℕ) (names : List (List ℕ)) (b : ℕ) → Begins v.geo (path_of query) start names → Leads v start names b
-    → TakesSome old new (text_of query v b)
+-- This text answers the query: the path leads to an inode for which the query is answered, and it is that inode's.
+pub record IsAnswerText (query : Query) (v : Volume) (text : List ℕ) : Type 0 where
+  pub inode : ℕ
+  pub leads : PathLeads query v inode
+  pub answered : IsAnswerable query v inode
+  pub is : text ≡ text_of query v inode
+
+-- the sink took a text that answers the query
+abbrev pub AnswersAt : Query → Volume → SinkState → SinkState → Type 0
+AnswersAt query v old new = (text : List ℕ) × (IsAnswerText query v text × Takes old new text)
+
+-- or its first bytes, maybe none or all
+abbrev pub AnswersSomeAt : Query → Volume → SinkState → SinkState → Type 0
+AnswersSomeAt query v old new = (text : List ℕ) × (IsAnswerText query v text × TakesSome old new text)
+
+-- nothing was put, or first bytes of a text that answers the query
+abbrev pub BeginsAnswerAt : Query → Volume → SinkState → SinkState → Type 0
+BeginsAnswerAt query v old new = (new ≡ old) ⊎ AnswersSomeAt query v old new
 
 -- a name of the path has no live entry
 abbrev pub IsAbsent : Query → Volume → Type 0

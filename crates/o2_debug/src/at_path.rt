@@ -3,6 +3,7 @@ ghost use Rattle.std.specs.Prelude.{◌≡◌, ◌⊎◌, ◌<◌, ℕ, List, tr
 ghost use Rattle.std.specs.Result.{IfErr};
 ghost use Rattle.o2_disk.specs.Image.{Image};
 ghost use Rattle.o2_disk.specs.Device.{Rose};
+ghost use Rattle.o2_disk.specs.Output.{FailsLast};
 ghost use Rattle.o2_view.specs.Views.{view_state, view_blocks};
 ghost use Rattle.o2_model.specs.declared.check.Check.{Check};
 ghost use Rattle.o2_extent.specs.Seen.{LiesIn, volume_seen};
@@ -10,7 +11,7 @@ ghost use Rattle.o2_extent.specs.Reads.{OnlyReads};
 ghost use Rattle.o2_dir.specs.PathTexts.{IsPath};
 ghost use Rattle.o2_dir.specs.Paths.{Begins};
 ghost use Rattle.o2_debug.specs.Answers.{path_of};
-ghost use Rattle.o2_debug.specs.Commands.{HasStarts, AnswersAt, TakesSomeAt, IsAbsent, IsOfWrongKind, FailsOn};
+ghost use Rattle.o2_debug.specs.Commands.{HasStarts, AnswersAt, AnswersSomeAt, BeginsAnswerAt, IsAbsent, IsOfWrongKind, FailsOn};
 
 use crate::last_object::answer;
 use crate::{DebugFault, Query};
@@ -48,7 +49,8 @@ pub fn answer_at_path<D: Disk, K: Sink, const N: usize>(
     requires path { IsPath (path_of query.now) }
     requires starts { (I : Image) → (view_state view.old).content ≡ Some I → HasStarts (volume_seen geo.now I) }
     ensures all { OnOk result ((I : Image) → (view_state view.old).content ≡ Some I → AnswersAt query.now (volume_seen geo.now I) (K.state out.old) (K.state out.new)) }
-    ensures some { (I : Image) → (view_state view.old).content ≡ Some I → TakesSomeAt query.now (volume_seen geo.now I) (K.state out.old) (K.state out.new) }
+    ensures some { (I : Image) → (view_state view.old).content ≡ Some I → BeginsAnswerAt query.now (volume_seen geo.now I) (K.state out.old) (K.state out.new) }
+    ensures cut { IsErrOf result DebugFault.OutputFault → (I : Image) → (view_state view.old).content ≡ Some I → AnswersSomeAt query.now (volume_seen geo.now I) (K.state out.old) (K.state out.new) }
     ensures absent { IsErrOf result DebugFault.Absent → (I : Image) → (view_state view.old).content ≡ Some I → IsAbsent query.now (volume_seen geo.now I) }
     ensures kind { IsErrOf result DebugFault.WrongKind → (I : Image) → (view_state view.old).content ≡ Some I → IsOfWrongKind query.now (volume_seen geo.now I) }
     ensures bad { IfErr result (λ fault. (check : Check) (b : ℕ) → fault ≡ DebugFault.Bad check b → (I : Image) → (view_state view.old).content ≡ Some I
@@ -58,7 +60,7 @@ pub fn answer_at_path<D: Disk, K: Sink, const N: usize>(
     ensures not_found { IsErrOf result DebugFault.Absent → out.new ≡ out.old }
     ensures reads { OnlyReads view.old view.new }
     ensures fault { IsErrOf result DebugFault.DeviceFault → Rose (view_state view.old).faults (view_state view.new).faults }
-    ensures output { IsErrOf result DebugFault.OutputFault → Rose (K.state out.old).faults (K.state out.new).faults }
+    ensures output { IsErrOf result DebugFault.OutputFault → FailsLast (K.state out.old) (K.state out.new) }
     ensures quiet { (IsErrOf result DebugFault.OutputFault → ⊥) → (K.state out.new).faults ≡ (K.state out.old).faults }
 {
     let inode = match path(alloc, view, geo, query.path()) {

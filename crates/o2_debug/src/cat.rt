@@ -3,6 +3,7 @@ ghost use Rattle.std.specs.Prelude.{◌≡◌, ◌<◌, ℕ, Some, OnOk, IsErrOf
 ghost use Rattle.std.specs.Result.{IfErr};
 ghost use Rattle.o2_disk.specs.Image.{Image};
 ghost use Rattle.o2_disk.specs.Device.{Rose};
+ghost use Rattle.o2_disk.specs.Output.{FailsLast};
 ghost use Rattle.o2_view.specs.Views.{view_state, view_blocks};
 ghost use Rattle.o2_model.specs.declared.check.Check.{Check};
 ghost use Rattle.o2_model.specs.Volume.{dinode};
@@ -45,7 +46,7 @@ pub fn put_file<D: Disk, K: Sink, const N: usize>(
     ensures kind { IsErrOf result DebugFault.WrongKind → ⊥ }
     ensures reads { OnlyReads view.old view.new }
     ensures fault { IsErrOf result DebugFault.DeviceFault → Rose (view_state view.old).faults (view_state view.new).faults }
-    ensures output { IsErrOf result DebugFault.OutputFault → Rose (K.state out.old).faults (K.state out.new).faults }
+    ensures output { IsErrOf result DebugFault.OutputFault → FailsLast (K.state out.old) (K.state out.new) }
     ensures quiet { (IsErrOf result DebugFault.OutputFault → ⊥) → (K.state out.new).faults ≡ (K.state out.old).faults }
 {
     let mut at = 0;

@@ -3,14 +3,14 @@ ghost use Rattle.std.specs.Prelude.{◌≡◌, ◌<◌, ℕ, List, true, Some, O
 ghost use Rattle.std.specs.Result.{IfErr};
 ghost use Rattle.o2_disk.specs.Image.{Image};
 ghost use Rattle.o2_disk.specs.Device.{Rose};
+ghost use Rattle.o2_disk.specs.Output.{FailsLast};
 ghost use Rattle.o2_view.specs.Views.{view_state, view_blocks};
 ghost use Rattle.o2_model.specs.declared.check.Check.{Check};
 ghost use Rattle.o2_model.specs.Volume.{is_valid};
 ghost use Rattle.o2_extent.specs.Seen.{LiesIn, volume_seen};
 ghost use Rattle.o2_extent.specs.Reads.{OnlyReads};
 ghost use Rattle.o2_debug.specs.declared.query.Query.TheVariants.{Ls, Stat, Cat};
-ghost use Rattle.o2_debug.specs.Answers.{IsOfOtherKind, FailsFor, Answers, text_of};
-ghost use Rattle.o2_debug.specs.Taken.{TakesSome};
+ghost use Rattle.o2_debug.specs.Answers.{IsOfOtherKind, FailsFor, Answers, AnswersSome, BeginsAnswer};
 
 use crate::cat::put_file;
 use crate::object::{is_of_directory, is_of_file, judge};
@@ -34,7 +34,9 @@ fn answer_ls<D: Disk, K: Sink, const N: usize>(
     requires sysdir { geo.now.sysdir < view_blocks view.old }
     requires valid { (I : Image) → (view_state view.old).content ≡ Some I → is_valid (volume_seen geo.now I) inode ≡ true }
     ensures all { (path : List ℕ) → OnOk result ((I : Image) → (view_state view.old).content ≡ Some I → Answers (Ls path) (volume_seen geo.now I) inode (K.state out.old) (K.state out.new)) }
-    ensures some { (path : List ℕ) (I : Image) → (view_state view.old).content ≡ Some I → TakesSome (K.state out.old) (K.state out.new) (text_of (Ls path) (volume_seen geo.now I) inode) }
+    ensures some { (path : List ℕ) (I : Image) → (view_state view.old).content ≡ Some I → BeginsAnswer (Ls path) (volume_seen geo.now I) inode (K.state out.old) (K.state out.new) }
+    ensures cut { (path : List ℕ) → IsErrOf result DebugFault.OutputFault → (I : Image) → (view_state view.old).content ≡ Some I
+        → AnswersSome (Ls path) (volume_seen geo.now I) inode (K.state out.old) (K.state out.new) }
     ensures bad { (path : List ℕ) → IfErr result (λ fault. (check : Check) (b : ℕ) → fault ≡ DebugFault.Bad check b → (I : Image) → (view_state view.old).content ≡ Some I
         → FailsFor (Ls path) (volume_seen geo.now I) inode check b) }
     ensures untouched { IfErr result (λ fault. (check : Check) (b : ℕ) → fault ≡ DebugFault.Bad check b → (I : Image) → (view_state view.old).content ≡ Some I → out.new ≡ out.old) }
@@ -43,7 +45,7 @@ fn answer_ls<D: Disk, K: Sink, const N: usize>(
     ensures absent { IsErrOf result DebugFault.Absent → ⊥ }
     ensures reads { OnlyReads view.old view.new }
     ensures fault { IsErrOf result DebugFault.DeviceFault → Rose (view_state view.old).faults (view_state view.new).faults }
-    ensures output { IsErrOf result DebugFault.OutputFault → Rose (K.state out.old).faults (K.state out.new).faults }
+    ensures output { IsErrOf result DebugFault.OutputFault → FailsLast (K.state out.old) (K.state out.new) }
     ensures quiet { (IsErrOf result DebugFault.OutputFault → ⊥) → (K.state out.new).faults ≡ (K.state out.old).faults }
 {
     let d = match judge(alloc, view, geo, inode) {
@@ -69,7 +71,9 @@ fn answer_stat<D: Disk, K: Sink, const N: usize>(
     requires sysdir { geo.now.sysdir < view_blocks view.old }
     requires valid { (I : Image) → (view_state view.old).content ≡ Some I → is_valid (volume_seen geo.now I) inode ≡ true }
     ensures all { (path : List ℕ) → OnOk result ((I : Image) → (view_state view.old).content ≡ Some I → Answers (Stat path) (volume_seen geo.now I) inode (K.state out.old) (K.state out.new)) }
-    ensures some { (path : List ℕ) (I : Image) → (view_state view.old).content ≡ Some I → TakesSome (K.state out.old) (K.state out.new) (text_of (Stat path) (volume_seen geo.now I) inode) }
+    ensures some { (path : List ℕ) (I : Image) → (view_state view.old).content ≡ Some I → BeginsAnswer (Stat path) (volume_seen geo.now I) inode (K.state out.old) (K.state out.new) }
+    ensures cut { (path : List ℕ) → IsErrOf result DebugFault.OutputFault → (I : Image) → (view_state view.old).content ≡ Some I
+        → AnswersSome (Stat path) (volume_seen geo.now I) inode (K.state out.old) (K.state out.new) }
     ensures bad { (path : List ℕ) → IfErr result (λ fault. (check : Check) (b : ℕ) → fault ≡ DebugFault.Bad check b → (I : Image) → (view_state view.old).content ≡ Some I
         → FailsFor (Stat path) (volume_seen geo.now I) inode check b) }
     ensures untouched { IfErr result (λ fault. (check : Check) (b : ℕ) → fault ≡ DebugFault.Bad check b → (I : Image) → (view_state view.old).content ≡ Some I → out.new ≡ out.old) }
@@ -78,7 +82,7 @@ fn answer_stat<D: Disk, K: Sink, const N: usize>(
     ensures absent { IsErrOf result DebugFault.Absent → ⊥ }
     ensures reads { OnlyReads view.old view.new }
     ensures fault { IsErrOf result DebugFault.DeviceFault → Rose (view_state view.old).faults (view_state view.new).faults }
-    ensures output { IsErrOf result DebugFault.OutputFault → Rose (K.state out.old).faults (K.state out.new).faults }
+    ensures output { IsErrOf result DebugFault.OutputFault → FailsLast (K.state out.old) (K.state out.new) }
     ensures quiet { (IsErrOf result DebugFault.OutputFault → ⊥) → (K.state out.new).faults ≡ (K.state out.old).faults }
 {
     let d = match judge(alloc, view, geo, inode) {
@@ -101,7 +105,9 @@ fn answer_cat<D: Disk, K: Sink, const N: usize>(
     requires sysdir { geo.now.sysdir < view_blocks view.old }
     requires valid { (I : Image) → (view_state view.old).content ≡ Some I → is_valid (volume_seen geo.now I) inode ≡ true }
     ensures all { (path : List ℕ) → OnOk result ((I : Image) → (view_state view.old).content ≡ Some I → Answers (Cat path) (volume_seen geo.now I) inode (K.state out.old) (K.state out.new)) }
-    ensures some { (path : List ℕ) (I : Image) → (view_state view.old).content ≡ Some I → TakesSome (K.state out.old) (K.state out.new) (text_of (Cat path) (volume_seen geo.now I) inode) }
+    ensures some { (path : List ℕ) (I : Image) → (view_state view.old).content ≡ Some I → BeginsAnswer (Cat path) (volume_seen geo.now I) inode (K.state out.old) (K.state out.new) }
+    ensures cut { (path : List ℕ) → IsErrOf result DebugFault.OutputFault → (I : Image) → (view_state view.old).content ≡ Some I
+        → AnswersSome (Cat path) (volume_seen geo.now I) inode (K.state out.old) (K.state out.new) }
     ensures bad { (path : List ℕ) → IfErr result (λ fault. (check : Check) (b : ℕ) → fault ≡ DebugFault.Bad check b → (I : Image) → (view_state view.old).content ≡ Some I
         → FailsFor (Cat path) (volume_seen geo.now I) inode check b) }
     ensures untouched { IfErr result (λ fault. (check : Check) (b : ℕ) → fault ≡ DebugFault.Bad check b → (I : Image) → (view_state view.old).content ≡ Some I → out.new ≡ out.old) }
@@ -110,7 +116,7 @@ fn answer_cat<D: Disk, K: Sink, const N: usize>(
     ensures absent { IsErrOf result DebugFault.Absent → ⊥ }
     ensures reads { OnlyReads view.old view.new }
     ensures fault { IsErrOf result DebugFault.DeviceFault → Rose (view_state view.old).faults (view_state view.new).faults }
-    ensures output { IsErrOf result DebugFault.OutputFault → Rose (K.state out.old).faults (K.state out.new).faults }
+    ensures output { IsErrOf result DebugFault.OutputFault → FailsLast (K.state out.old) (K.state out.new) }
     ensures quiet { (IsErrOf result DebugFault.OutputFault → ⊥) → (K.state out.new).faults ≡ (K.state out.old).faults }
 {
     let d = match judge(alloc, view, geo, inode) {
@@ -138,7 +144,8 @@ pub fn answer<D: Disk, K: Sink, const N: usize>(
     requires sysdir { geo.now.sysdir < view_blocks view.old }
     requires valid { (I : Image) → (view_state view.old).content ≡ Some I → is_valid (volume_seen geo.now I) inode ≡ true }
     ensures all { OnOk result ((I : Image) → (view_state view.old).content ≡ Some I → Answers query.now (volume_seen geo.now I) inode (K.state out.old) (K.state out.new)) }
-    ensures some { (I : Image) → (view_state view.old).content ≡ Some I → TakesSome (K.state out.old) (K.state out.new) (text_of query.now (volume_seen geo.now I) inode) }
+    ensures some { (I : Image) → (view_state view.old).content ≡ Some I → BeginsAnswer query.now (volume_seen geo.now I) inode (K.state out.old) (K.state out.new) }
+    ensures cut { IsErrOf result DebugFault.OutputFault → (I : Image) → (view_state view.old).content ≡ Some I → AnswersSome query.now (volume_seen geo.now I) inode (K.state out.old) (K.state out.new) }
     ensures bad { IfErr result (λ fault. (check : Check) (b : ℕ) → fault ≡ DebugFault.Bad check b → (I : Image) → (view_state view.old).content ≡ Some I
         → FailsFor query.now (volume_seen geo.now I) inode check b) }
     ensures untouched { IfErr result (λ fault. (check : Check) (b : ℕ) → fault ≡ DebugFault.Bad check b → (I : Image) → (view_state view.old).content ≡ Some I → out.new ≡ out.old) }
@@ -147,7 +154,7 @@ pub fn answer<D: Disk, K: Sink, const N: usize>(
     ensures absent { IsErrOf result DebugFault.Absent → ⊥ }
     ensures reads { OnlyReads view.old view.new }
     ensures fault { IsErrOf result DebugFault.DeviceFault → Rose (view_state view.old).faults (view_state view.new).faults }
-    ensures output { IsErrOf result DebugFault.OutputFault → Rose (K.state out.old).faults (K.state out.new).faults }
+    ensures output { IsErrOf result DebugFault.OutputFault → FailsLast (K.state out.old) (K.state out.new) }
     ensures quiet { (IsErrOf result DebugFault.OutputFault → ⊥) → (K.state out.new).faults ≡ (K.state out.old).faults }
 {
     match query {

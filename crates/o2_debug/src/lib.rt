@@ -11,11 +11,11 @@ mod object;
 mod output;
 mod put;
 mod query;
+#[cfg(test)]
+mod tests;
 mod text;
 
-pub use at_path::answer_at_path;
 pub use commands::command;
 pub use fault::DebugFault;
-pub use last_object::answer;
-pub use output::{put_lines, put_text};
+pub use output::put_text;
 pub use query::Query;

@@ -1,7 +1,8 @@
 // Text put on a sink.
-ghost use Rattle.std.specs.Prelude.{◌≡◌, ℕ, List, OnOk};
+ghost use Rattle.std.specs.Prelude.{◌≡◌, ℕ, List, OnOk, OnErr};
 ghost use Rattle.std.specs.List.{concat};
 ghost use Rattle.o2_disk.specs.Device.{HasCause};
+ghost use Rattle.o2_disk.specs.Output.{FailsLast};
 ghost use Rattle.o2_debug.specs.Taken.{Takes, TakesSome};
 
 use o2_disk::{Failed, Sink};
@@ -12,6 +13,7 @@ pub fn put_text<K: Sink>(out: &mut K, text: &[u8]) -> Result<(), Failed>
     ensures all { OnOk result (Takes (K.state out.old) (K.state out.new) text.now) }
     ensures some { TakesSome (K.state out.old) (K.state out.new) text.now }
     ensures cause { HasCause (K.state out.old).faults (K.state out.new).faults result }
+    ensures stops { OnErr result (FailsLast (K.state out.old) (K.state out.new)) }
 {
     let mut put = 0;
     while put < text.len() {
@@ -25,6 +27,7 @@ pub fn put_lines<K: Sink>(out: &mut K, lines: &[Bytes]) -> Result<(), Failed>
     ensures all { OnOk result (Takes (K.state out.old) (K.state out.new) (concat lines.now)) }
     ensures some { TakesSome (K.state out.old) (K.state out.new) (concat lines.now) }
     ensures cause { HasCause (K.state out.old).faults (K.state out.new).faults result }
+    ensures stops { OnErr result (FailsLast (K.state out.old) (K.state out.new)) }
 {
     for line in lines {
         put_text(out, line.as_slice())?;

@@ -1,9 +1,10 @@
 // The text of `ls` and of `stat`, put on a sink.
-ghost use Rattle.std.specs.Prelude.{◌≡◌, ◌<◌, ℕ, true, Some, OnOk, OnErr, IsErrOf};
+ghost use Rattle.std.specs.Prelude.{◌≡◌, ◌⊎◌, ◌<◌, ℕ, true, Some, OnOk, OnErr, IsErrOf};
 ghost use Rattle.std.specs.List.{concat};
 ghost use Rattle.std.specs.Result.{IfErr};
 ghost use Rattle.o2_disk.specs.Image.{Image};
 ghost use Rattle.o2_disk.specs.Device.{Rose, HasCause};
+ghost use Rattle.o2_disk.specs.Output.{FailsLast};
 ghost use Rattle.o2_view.specs.Views.{view_state, view_blocks};
 ghost use Rattle.o2_model.specs.declared.check.Check.{Check};
 ghost use Rattle.o2_model.specs.Volume.{dinode};
@@ -32,6 +33,7 @@ fn put_all<K: Sink>(out: &mut K, lines: &Lines) -> Result<(), DebugFault>
     ensures some { TakesSome (K.state out.old) (K.state out.new) (concat lines.now) }
     ensures cause { OnErr result (IsErrOf result DebugFault.OutputFault) }
     ensures faults { HasCause (K.state out.old).faults (K.state out.new).faults result }
+    ensures stops { OnErr result (FailsLast (K.state out.old) (K.state out.new)) }
 {
     match put_lines(out, lines.as_slice()) {
         Ok(()) => Ok(()),
@@ -51,7 +53,10 @@ pub fn put_ls<D: Disk, K: Sink, const N: usize>(
     requires inode { inode < view_blocks view.old }
     requires directory { (I : Image) → (view_state view.old).content ≡ Some I → is_directory (volume_seen geo.now I) inode ≡ true }
     ensures all { OnOk result ((I : Image) → (view_state view.old).content ≡ Some I → Takes (K.state out.old) (K.state out.new) (ls_text (volume_seen geo.now I) inode)) }
-    ensures some { (I : Image) → (view_state view.old).content ≡ Some I → TakesSome (K.state out.old) (K.state out.new) (ls_text (volume_seen geo.now I) inode) }
+    ensures some { (I : Image) → (view_state view.old).content ≡ Some I
+        → (K.state out.new ≡ K.state out.old) ⊎ (FailsNone (volume_seen geo.now I) inode × TakesSome (K.state out.old) (K.state out.new) (ls_text (volume_seen geo.now I) inode)) }
+    ensures cut { IsErrOf result DebugFault.OutputFault → (I : Image) → (view_state view.old).content ≡ Some I
+        → FailsNone (volume_seen geo.now I) inode × TakesSome (K.state out.old) (K.state out.new) (ls_text (volume_seen geo.now I) inode) }
     ensures sound { OnOk result ((I : Image) → (view_state view.old).content ≡ Some I → FailsNone (volume_seen geo.now I) inode) }
     ensures bad { IfErr result (λ fault. (check : Check) (b : ℕ) → fault ≡ DebugFault.Bad check b → (I : Image) → (view_state view.old).content ≡ Some I
         → FailsFirst (volume_seen geo.now I) inode check b) }
@@ -60,7 +65,7 @@ pub fn put_ls<D: Disk, K: Sink, const N: usize>(
     ensures absent { IsErrOf result DebugFault.Absent → ⊥ }
     ensures reads { OnlyReads view.old view.new }
     ensures fault { IsErrOf result DebugFault.DeviceFault → Rose (view_state view.old).faults (view_state view.new).faults }
-    ensures output { IsErrOf result DebugFault.OutputFault → Rose (K.state out.old).faults (K.state out.new).faults }
+    ensures output { IsErrOf result DebugFault.OutputFault → FailsLast (K.state out.old) (K.state out.new) }
     ensures quiet { (IsErrOf result DebugFault.OutputFault → ⊥) → (K.state out.new).faults ≡ (K.state out.old).faults }
 {
     let lines = match ls_lines(alloc, view, geo, inode) {
@@ -91,7 +96,7 @@ pub fn put_stat<D: Disk, K: Sink, const N: usize>(
     ensures absent { IsErrOf result DebugFault.Absent → ⊥ }
     ensures reads { OnlyReads view.old view.new }
     ensures fault { IsErrOf result DebugFault.DeviceFault → Rose (view_state view.old).faults (view_state view.new).faults }
-    ensures output { IsErrOf result DebugFault.OutputFault → Rose (K.state out.old).faults (K.state out.new).faults }
+    ensures output { IsErrOf result DebugFault.OutputFault → FailsLast (K.state out.old) (K.state out.new) }
     ensures quiet { (IsErrOf result DebugFault.OutputFault → ⊥) → (K.state out.new).faults ≡ (K.state out.old).faults }
 {
     let lines = match stat_lines(alloc, view, geo, inode, d) {

@@ -5,3 +5,4 @@ pub mod Moments
 pub mod Noted
 pub mod Puts
 pub mod Settled
+pub mod Sinks

@@ -14,6 +14,7 @@ use Rattle.o2_disk.specs.declared.disk.How.{How}
 use Rattle.o2_disk.specs.declared.call.Call.{Call}
 use Rattle.o2_disk.specs.declared.call.Call.TheVariants.{Read, Sync}
 use Rattle.o2_disk.specs.Stored.{stored}
+use Rattle.o2_disk.specs.Attaches.{Attachment}
 use Rattle.o2_disk.specs.Calls.{Choices, newest, put_into, put_by, put_or_zeros, step, run, start, IsOutcome, shown, mem_state, RecordsWrite}
 use Rattle.o2_disk.specs.Recorded.{some_choice, contains_newest, length-shown, sector-shown, has_sectors}
 use Rattle.o2_disk.proofs.Images.{torn_all, same_image, length-written, sector-written_in, sector-written_other, in_or_out, sector_past}
@@ -48,8 +49,8 @@ module _ (base : BTreeMap ℕ (List ℕ)) (calls new : List Call) (c : Call) (is
           ∙ sym (puts s ∙ ap (λ (o : Option (List ℕ)). unwrap_or o (stored old s)) what)
           ∙ ap (λ (o : Option (List ℕ)). unwrap_or o zero_sector) none
 
-  module _ (name : List ℕ) (attached : Option How) (n faults more : ℕ) where
-    pub elapses_more : Elapses (mem_state name attached n base calls faults) (mem_state name attached n base new more)
+  module _ (attaches : List Attachment) (attached : Option How) (n faults more : ℕ) where
+    pub elapses_more : Elapses (mem_state attaches attached n base calls faults) (mem_state attaches attached n base new more)
     elapses_more = record {
       later = omega (arith, ap length is, length_push calls c);
       nothing_else = λ t X le since. elim (cases_lt (length calls) since.moment) [
@@ -70,7 +71,7 @@ module _ (base : BTreeMap ℕ (List ℕ)) (calls new : List Call) (c : Call) (is
     }
 
     -- a call that changes nothing
-    pub keeps_plain : ((m : Choices) → step c m ≡ m) → Keeps (mem_state name attached n base calls faults) (mem_state name attached n base new more)
+    pub keeps_plain : ((m : Choices) → step c m ≡ m) → Keeps (mem_state attaches attached n base calls faults) (mem_state attaches attached n base new more)
     keeps_plain plain = record {
       content = ap (λ (m : Choices). Some (shown n m)) (one_more ∙ plain (run (start base) calls));
       may_leave = λ X out. subst (λ (m : Choices). IsOutcome n m X) (one_more ∙ plain (run (start base) calls)) out;
@@ -98,8 +99,8 @@ module _ (base : BTreeMap ℕ (List ℕ)) (calls new : List Call) (is : new ≡ 
           let first : found.0 ≡ 0 = omega (arith, found.1) in
           sym (ap (λ (k : ℕ). get_or (a ∷ []) k x) first) ∙ found.2
 
-  pub keeps_sync : (name : List ℕ) (attached : Option How) (faults more : ℕ) → Keeps (mem_state name attached n base calls faults) (mem_state name attached n base new more)
-  keeps_sync name attached faults more = record {
+  pub keeps_sync : (attaches : List Attachment) (attached : Option How) (faults more : ℕ) → Keeps (mem_state attaches attached n base calls faults) (mem_state attaches attached n base new more)
+  keeps_sync attaches attached faults more = record {
     content = ap (λ (I : Image). Some I) (shown-same n (run (start base) new) (run (start base) calls) (λ s. newest_one base calls new Sync is s));
     may_leave = λ X out. outcome_of X (durable (shown n (run (start base) calls)) refl X out);
   }

@@ -11,6 +11,7 @@ use Rattle.o2_disk.specs.Device.{IsSettled}
 use Rattle.o2_disk.specs.declared.disk.How.{How}
 use Rattle.o2_disk.specs.declared.call.Call.{Call}
 use Rattle.o2_disk.specs.Stored.{stored}
+use Rattle.o2_disk.specs.Attaches.{Attachment}
 use Rattle.o2_disk.specs.Calls.{newest, put_or_zeros, run, start, IsOutcome, shown, mem_state}
 use Rattle.o2_disk.specs.Recorded.{length-shown, sector-shown}
 use Rattle.o2_disk.proofs.Images.{same_image, length-image_of, sector-image_of}
@@ -25,8 +26,8 @@ only_one a x found =
     let first : found.0 ≡ 0 = omega (arith, found.1) in
     sym found.2 ∙ ap (λ (k : ℕ). get_or (a ∷ []) k x) first
 
-pub settled_base : (name : List ℕ) (attached : Option How) (n : ℕ) (base : BTreeMap ℕ (List ℕ)) (calls : List Call) (faults : ℕ) → calls ≡ [] → IsSettled (mem_state name attached n base calls faults) (image_of n (λ s. stored base s))
-settled_base name attached n base calls faults none = record {
+pub settled_base : (attaches : List Attachment) (attached : Option How) (n : ℕ) (base : BTreeMap ℕ (List ℕ)) (calls : List Call) (faults : ℕ) → calls ≡ [] → IsSettled (mem_state attaches attached n base calls faults) (image_of n (λ s. stored base s))
+settled_base attaches attached n base calls faults none = record {
   content = ap (λ (l : List Call). Some (shown n (run (start base) l))) none ∙ ap (λ (I : Image). Some I) (shown_base n base);
   only = λ X out.
       let o = subst (λ (l : List Call). IsOutcome n (run (start base) l) X) none out in

@@ -4,6 +4,7 @@ use Rattle.std.specs.List.{Contains}
 use Rattle.std.specs.BTreeMap.{BTreeMap}
 use Rattle.o2_disk.specs.Stored.{stored}
 use Rattle.o2_disk.specs.Image.{Image, sector, image_of, sectors_in, piece, zero_sector}
+use Rattle.o2_disk.specs.Attaches.{Attachment}
 use Rattle.o2_disk.specs.Device.{DiskState}
 use Rattle.o2_disk.specs.declared.disk.How.{How}
 use Rattle.o2_disk.specs.declared.call.Call.{Call}
@@ -67,9 +68,9 @@ pub record Since (sectors : ℕ) (base : BTreeMap ℕ (List ℕ)) (calls : List 
   pub past : moment ≤ length calls
   pub outcome : IsOutcome sectors (moment_of base calls moment) X
 
-abbrev pub mem_state : List ℕ → Option How → ℕ → BTreeMap ℕ (List ℕ) → List Call → ℕ → DiskState
-mem_state name attached sectors base calls faults = record {
-  name = name;
+abbrev pub mem_state : List Attachment → Option How → ℕ → BTreeMap ℕ (List ℕ) → List Call → ℕ → DiskState
+mem_state attaches attached sectors base calls faults = record {
+  attaches = attaches;
   attached = attached;
   sectors = sectors;
   content = Some (shown sectors (run (start base) calls));

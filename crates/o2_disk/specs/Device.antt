@@ -1,13 +1,14 @@
 -- What the calls of a disk do to its content, and what a crash may leave.
 use Rattle.std.specs.Prelude.{◌≡◌, ◌⊎◌, ℕ, ◌+◌, ◌-◌, ◌^◌, ◌<◌, ◌≤◌, ◌/◌, ◌%◌, List, Option, Some, None, Result, OnOk, OnErr}
 use Rattle.o2_disk.specs.Image.{Image}
+use Rattle.o2_disk.specs.Attaches.{Attachment, and_attached}
 use Rattle.o2_disk.specs.declared.disk.How.{How}
 use Rattle.o2_disk.specs.declared.disk.How.TheVariants.{ReadOnly, ReadWrite}
 
 -- what a contract knows of a disk
 pub record DiskState : Type 1 where
-  -- the name that its last attach was given
-  pub name : List ℕ
+  -- its attaches so far that found memory for their names, in order
+  pub attaches : List Attachment
   -- how it is attached
   pub attached : Option How
   -- how many sectors it has
@@ -61,9 +62,17 @@ IsWritable None = ⊥
 
 -- no call but `attach` changes these
 pub record SameDevice (old new : DiskState) : Type 0 where
-  pub name : new.name ≡ old.name
+  pub attaches : new.attaches ≡ old.attaches
   pub attached : new.attached ≡ old.attached
   pub sectors : new.sectors ≡ old.sectors
+
+-- between the two it was attached once, under this name and in this way
+abbrev pub IsAttachedOnce : List ℕ → How → DiskState → DiskState → Type 0
+IsAttachedOnce name how old new = new.attaches ≡ and_attached old.attaches name how
+
+-- or not at all
+abbrev pub IsAttachedAtMostOnce : List ℕ → How → DiskState → DiskState → Type 0
+IsAttachedAtMostOnce name how old new = (new.attaches ≡ old.attaches) ⊎ IsAttachedOnce name how old new
 
 -- A call that writes nothing changes no content, and adds nothing to what a crash may leave.
 pub record Keeps (old new : DiskState) : Type 0 where

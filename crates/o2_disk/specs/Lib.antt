@@ -1,3 +1,4 @@
+pub mod Attaches
 pub mod Calls
 pub mod Device
 pub mod FileState

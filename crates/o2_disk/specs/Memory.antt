@@ -1,7 +1,8 @@
 -- What a contract knows of a disk in memory.
-use Rattle.std.specs.Prelude.{◌≡◌, ◌⊎◌, ℕ, ◌+◌, Bool, List, [], ◌∷◌, ◌++◌, length, nat_lt, if◌then◌else◌, true, false, None, Result, OnOk, OnErr, IsErrOf, string_bytes}
+use Rattle.std.specs.Prelude.{◌≡◌, ◌⊎◌, ℕ, ◌+◌, Bool, List, [], ◌∷◌, ◌++◌, length, nat_lt, if◌then◌else◌, true, false, None, Result, OnOk, OnErr, IsErrOf}
 use Rattle.std.specs.List.{Contains}
 use Rattle.o2_disk.specs.Image.{Image, sector, image_of, zero_sector}
+use Rattle.o2_disk.specs.Attaches.{attachments_of}
 use Rattle.o2_disk.specs.Device.{DiskState, Rose}
 use Rattle.o2_disk.specs.Calls.{mem_state, moment_of, IsOutcome, chosen}
 use Rattle.o2_disk.specs.declared.call.Call.{Call}
@@ -11,7 +12,7 @@ use Rattle.o2_disk.specs.declared.mem_disk.MemDisk.{MemDisk}
 
 -- the state that the trait speaks of
 abbrev pub disk_state : MemDisk → DiskState
-disk_state m = mem_state (string_bytes m.name) m.attached m.sectors m.base m.calls.items m.faults
+disk_state m = mem_state (attachments_of m.attaches.items) m.attached m.sectors m.base m.calls.items m.faults
 
 -- the calls that took a number, in their order
 abbrev pub recorded : MemDisk → List Call
@@ -78,7 +79,7 @@ pub record Attaches {T : Type 0} (old new : MemDisk) (result : Result T AttachFa
 -- a disk that no call has reached yet
 pub record IsFresh (sectors : ℕ) (m : MemDisk) : Type 0 where
   pub size : m.sectors ≡ sectors
-  pub name : string_bytes m.name ≡ []
+  pub attaches : attachments_of m.attaches.items ≡ []
   pub attached : m.attached ≡ None
   pub calls : recorded m ≡ []
   pub failing : failing_calls m ≡ []
@@ -88,7 +89,7 @@ pub record IsFresh (sectors : ℕ) (m : MemDisk) : Type 0 where
 
 -- all but which calls are to fail is as it was
 pub record SameDisk (old new : MemDisk) : Type 0 where
-  pub name : string_bytes new.name ≡ string_bytes old.name
+  pub attaches : attachments_of new.attaches.items ≡ attachments_of old.attaches.items
   pub attached : new.attached ≡ old.attached
   pub sectors : new.sectors ≡ old.sectors
   pub base : new.base ≡ old.base

@@ -1,5 +1,5 @@
 -- What a contract knows of a sink in memory.
-use Rattle.std.specs.Prelude.{◌≡◌, ◌⊎◌, ℕ, ◌+◌, ◌-◌, ◌^◌, min, List, [], Some, Result, OnOk, OnErr}
+use Rattle.std.specs.Prelude.{◌≡◌, ◌⊎◌, ℕ, ◌+◌, ◌-◌, ◌^◌, min, List, [], false, Some, Result, OnOk, OnErr}
 use Rattle.std.specs.List.{Contains}
 use Rattle.o2_disk.specs.Device.{Rose}
 use Rattle.o2_disk.specs.Output.{SinkState}
@@ -7,7 +7,7 @@ use Rattle.o2_disk.specs.declared.mem_sink.MemSink.{MemSink}
 
 -- the state that the trait speaks of
 abbrev pub sink_state : MemSink → SinkState
-sink_state m = record { taken = Some m.output.items; faults = m.faults }
+sink_state m = record { taken = Some m.output.items; faults = m.faults; failed_last = m.failed_last }
 
 -- the bytes that it took
 abbrev pub output : MemSink → List ℕ
@@ -46,6 +46,7 @@ pub record IsFreshSink (m : MemSink) : Type 0 where
   pub puts : puts_made m ≡ 0
   pub failing : failing_puts m ≡ []
   pub faults : m.faults ≡ 0
+  pub last : m.failed_last ≡ false
   pub starved : starved_puts m ≡ 0
 
 -- all but which puts are to fail is as it was
@@ -53,4 +54,5 @@ pub record SameSink (old new : MemSink) : Type 0 where
   pub output : output new ≡ output old
   pub puts : puts_made new ≡ puts_made old
   pub faults : new.faults ≡ old.faults
+  pub last : new.failed_last ≡ old.failed_last
   pub starved : starved_puts new ≡ starved_puts old

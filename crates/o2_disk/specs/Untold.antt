@@ -1,12 +1,13 @@
 -- A disk that tells no content: for all that is known, a crash may leave anything.
 use Rattle.std.specs.Prelude.{◌≡◌, ℕ, List, Option, None, Some}
 use Rattle.o2_disk.specs.Image.{Image}
+use Rattle.o2_disk.specs.Attaches.{Attachment}
 use Rattle.o2_disk.specs.Device.{DiskState}
 use Rattle.o2_disk.specs.declared.disk.How.{How}
 
-abbrev pub untold : List ℕ → Option How → ℕ → ℕ → DiskState
-untold name attached sectors faults = record {
-  name = name;
+abbrev pub untold : List Attachment → Option How → ℕ → ℕ → DiskState
+untold attaches attached sectors faults = record {
+  attaches = attaches;
   attached = attached;
   sectors = sectors;
   content = None;

@@ -33,7 +33,7 @@ pub enum How {
 /// A sector is written whole or not at all. Between two syncs that answer Ok each sector by itself holds, after a
 /// crash, what it held at the first of them or anything that was written into it since.
 pub trait Disk {
-    ghost use Rattle.o2_disk.specs.Device.{DiskState, Told, Follows, Leads, StaysPending, Only, IsRange, IsWritable, SameDevice, Keeps, Elapses, Ticks, HasCause};
+    ghost use Rattle.o2_disk.specs.Device.{DiskState, Told, Follows, Leads, StaysPending, Only, IsRange, IsWritable, IsAttachedOnce, SameDevice, Keeps, Elapses, Ticks, HasCause};
 
     /// What a contract knows of the disk.
     ghost state: { Self → DiskState };
@@ -42,8 +42,8 @@ pub trait Disk {
     fn attach(&mut self, alloc: Global, name: &str, how: How) -> Result<u64, AttachFault>
         ensures opened { IfOk result (λ n. ((state self.new).sectors ≡ n) × ((state self.new).attached ≡ Some how)) }
         ensures refused { OnErr result ((state self.new).attached ≡ None) }
-        ensures named { (IsErrOf result AttachFault.NoMemory → ⊥) → (state self.new).name ≡ name.now }
-        ensures not_named { IsErrOf result AttachFault.NoMemory → (state self.new).name ≡ (state self.old).name }
+        ensures told { (IsErrOf result AttachFault.NoMemory → ⊥) → IsAttachedOnce name.now how (state self.old) (state self.new) }
+        ensures not_told { IsErrOf result AttachFault.NoMemory → (state self.new).attaches ≡ (state self.old).attaches }
         ensures same { Keeps (state self.old) (state self.new) }
         ensures pending { StaysPending (state self.old) (state self.new) }
         ensures time { Elapses (state self.old) (state self.new) }

@@ -1,10 +1,12 @@
 //! Disks and sinks: what their calls promise, what a crash may leave of a disk, and the disks and sinks themselves.
 #![tactic(auto)]
 
+mod attach;
 mod call;
 mod disk;
 mod failing;
 mod file_disk;
+mod in_use;
 mod kept;
 mod maps;
 mod mem_disk;

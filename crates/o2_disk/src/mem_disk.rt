@@ -1,13 +1,15 @@
 // A disk in memory: a sparse map of sectors, and a record of all calls.
-ghost use Rattle.std.specs.Prelude.{◌≡◌, ◌≢◌, ◌⊎◌, ℕ, ◌+◌, ◌-◌, ◌*◌, ◌/◌, ◌%◌, ◌<◌, ◌≤◌, ◌^◌, [], ◌∷◌, ◌++◌, length, OnOk, OnErr, IfOk, string_bytes, Some, None, unwrap_or};
+ghost use Rattle.std.specs.Prelude.{◌≡◌, ◌≢◌, ◌⊎◌, ℕ, ◌+◌, ◌-◌, ◌*◌, ◌/◌, ◌%◌, ◌<◌, ◌≤◌, ◌^◌, [], ◌∷◌, ◌++◌, length, OnOk, OnErr, IfOk, Some, None, unwrap_or};
 ghost use Rattle.std.specs.Ordering.{nat_cmp};
 ghost use Rattle.std.specs.BTreeMap.{get};
 ghost use Rattle.o2_disk.specs.Image.{IsSector, zero_sector};
+ghost use Rattle.o2_disk.specs.Attaches.{attachments_of};
 ghost use Rattle.o2_disk.specs.Device.{Rose};
 ghost use Rattle.o2_disk.specs.Stored.{stored};
 ghost use Rattle.o2_disk.specs.Calls.{mem_state, newest, run, start, put_or_zeros};
 ghost use Rattle.o2_disk.specs.Recorded.{counts_now, only_now, shown_is_outcome, has_sectors, is_image};
 
+use crate::attach::{Attach, note_attach};
 use crate::failing::FailingCalls;
 use crate::kept::{keep, note, raise, sync_call};
 use crate::maps::Maps;
@@ -21,7 +23,7 @@ use std::collections::BTreeMap;
 #[derive(Drop)]
 pub struct MemDisk {
     alloc: Global,
-    name: String,
+    attaches: Vec<Attach>,
     attached: Option<How>,
     sectors: u64,
     base: BTreeMap<u64, [u8; 512]>,
@@ -64,7 +66,7 @@ impl MemDisk {
         let Maps { base, held } = maps;
         MemDisk {
             alloc,
-            name: String::new(alloc),
+            attaches: Vec::new(alloc),
             attached: None,
             sectors,
             base,
@@ -148,19 +150,20 @@ impl MemDisk {
 impl Disk for MemDisk {
     ghost use Rattle.std.specs.Prelude.{◌≡◌, ◌≢◌, ◌*◌, ℕ, List, length, true, false, IfOk, OnOk, OnErr, IsErrOf, Some, None};
     ghost use Rattle.o2_disk.specs.Image.{Image, written, bytes_from, Torn};
-    ghost use Rattle.o2_disk.specs.Device.{Told, Follows, Leads, StaysPending, Only, IsRange, IsWritable, SameDevice, Keeps, Elapses, Ticks, HasCause};
+    ghost use Rattle.o2_disk.specs.Device.{Told, Follows, Leads, StaysPending, Only, IsRange, IsWritable, IsAttachedOnce, SameDevice, Keeps, Elapses, Ticks, HasCause};
+    ghost use Rattle.o2_disk.specs.Attaches.{attachments_of};
     ghost use Rattle.o2_disk.specs.Calls.{RecordsWrite};
     ghost use Rattle.o2_disk.specs.declared.call.Call.TheVariants.{Read, Sync, FailedSync};
     ghost use Rattle.o2_disk.specs.Memory.{disk_state, Numbered, SameFailing, Attaches};
 
-    ghost state = { λ m. mem_state (string_bytes m.name) m.attached m.sectors m.base m.calls.items m.faults };
+    ghost state = { λ m. mem_state (attachments_of m.attaches.items) m.attached m.sectors m.base m.calls.items m.faults };
 
     /// Answers alike for every name. It takes no number.
     fn attach(&mut self, alloc: Global, name: &str, how: How) -> Result<u64, AttachFault>
         ensures opened { IfOk result (λ n. ((disk_state self.new).sectors ≡ n) × ((disk_state self.new).attached ≡ Some how)) }
         ensures refused { OnErr result ((disk_state self.new).attached ≡ None) }
-        ensures named { (IsErrOf result AttachFault.NoMemory → ⊥) → (disk_state self.new).name ≡ name.now }
-        ensures not_named { IsErrOf result AttachFault.NoMemory → (disk_state self.new).name ≡ (disk_state self.old).name }
+        ensures told { (IsErrOf result AttachFault.NoMemory → ⊥) → IsAttachedOnce name.now how (disk_state self.old) (disk_state self.new) }
+        ensures not_told { IsErrOf result AttachFault.NoMemory → (disk_state self.new).attaches ≡ (disk_state self.old).attaches }
         ensures same { Keeps (disk_state self.old) (disk_state self.new) }
         ensures pending { StaysPending (disk_state self.old) (disk_state self.new) }
         ensures time { Elapses (disk_state self.old) (disk_state self.new) }
@@ -169,13 +172,12 @@ impl Disk for MemDisk {
         ensures size { (disk_state self.new).sectors ≡ (disk_state self.old).sectors }
     {
         let _sectors = self.sectors;
-        let Ok(kept) = String::from_str(alloc, name) else {
+        let Ok(()) = note_attach(alloc, &mut self.attaches, name, how) else {
             self.attached = None;
             raise(&mut self.faults);
             raise(&mut self.starved);
             return Err(AttachFault::NoMemory);
         };
-        self.name = kept;
         if self.attach_fails {
             self.attach_fails = false;
             self.attached = None;

@@ -13,6 +13,7 @@ pub struct MemSink {
     puts: u64,
     failing: FailingCalls,
     faults: u64,
+    failed_last: bool,
     starved: u64,
 }
 
@@ -30,6 +31,7 @@ impl MemSink {
             puts: 0,
             failing: FailingCalls::new(),
             faults: 0,
+            failed_last: false,
             starved: 0,
         }
     }
@@ -61,11 +63,12 @@ impl MemSink {
 }
 
 impl Sink for MemSink {
-    ghost use Rattle.std.specs.Prelude.{◌≡◌, ◌≢◌, ◌≤◌, ◌<◌, ◌++◌, [], List, ℕ, length, take, IfOk, OnErr, Some};
+    ghost use Rattle.std.specs.Prelude.{◌≡◌, ◌≢◌, ◌≤◌, ◌<◌, ◌++◌, [], List, ℕ, length, take, false, IfOk, OnOk, OnErr, Some};
     ghost use Rattle.o2_disk.specs.Device.{HasCause};
+    ghost use Rattle.o2_disk.specs.Output.{FailsLast};
     ghost use Rattle.o2_disk.specs.MemoryOutput.{sink_state, PutNumbered};
 
-    ghost state = { λ m. record { taken = Some m.output.items; faults = m.faults } };
+    ghost state = { λ m. record { taken = Some m.output.items; faults = m.faults; failed_last = m.failed_last } };
 
     /// Takes all bytes, or none.
     fn put(&mut self, bytes: &[u8]) -> Result<usize, Failed>
@@ -74,20 +77,25 @@ impl Sink for MemSink {
         ensures taken { IfOk result (λ n. (T : List ℕ) → (sink_state self.old).taken ≡ Some T → (sink_state self.new).taken ≡ Some (T ++ take n bytes.now)) }
         ensures same { OnErr result ((sink_state self.new).taken ≡ (sink_state self.old).taken) }
         ensures cause { HasCause (sink_state self.old).faults (sink_state self.new).faults result }
+        ensures went { OnOk result ((sink_state self.new).failed_last ≡ false) }
+        ensures failed { OnErr result (FailsLast (sink_state self.old) (sink_state self.new)) }
         ensures all { IfOk result (λ n. n ≡ length bytes.now) }
         ensures numbered { PutNumbered self.old self.new result }
     {
         if self.failing.has(self.puts) {
             raise(&mut self.puts);
             raise(&mut self.faults);
+            self.failed_last = true;
             return Err(Failed);
         }
         let Ok(()) = self.output.extend_from_slice(bytes) else {
             raise(&mut self.faults);
             raise(&mut self.starved);
+            self.failed_last = true;
             return Err(Failed);
         };
         raise(&mut self.puts);
+        self.failed_last = false;
         Ok(bytes.len())
     }
 }

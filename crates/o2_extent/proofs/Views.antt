@@ -13,7 +13,7 @@ module _ {D : Type 0} {N : ℕ} {g : disk.Ghosts D} where
   pub only_none : (view : View D N g) → OnlyReads view view
   only_none view = record {
     reads = reads_none (view_state view);
-    device = record { name = refl; attached = refl; sectors = refl };
+    device = record { attaches = refl; attached = refl; sectors = refl };
     same = record { bits = refl; blocks = refl; disk = refl };
     later = omega arith;
   }
@@ -22,7 +22,7 @@ module _ {D : Type 0} {N : ℕ} {g : disk.Ghosts D} where
   only_both {old} {mid} {new} a b = record {
     reads = reads_both a.reads b.reads;
     device = record {
-      name = b.device.name ∙ a.device.name;
+      attaches = b.device.attaches ∙ a.device.attaches;
       attached = b.device.attached ∙ a.device.attached;
       sectors = b.device.sectors ∙ a.device.sectors;
     };

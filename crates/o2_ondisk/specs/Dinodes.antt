@@ -35,6 +35,7 @@ dinode_of block = record {
   orphaned_slot = number_at 0x74 2 block;
   dyn_features = record { 0 = number_at 0x76 2 block };
   xattr_loc = number_at 0x78 8 block;
+  check = number_at 0x80 8 block;
   dx_root = number_at 0x88 8 block;
   refcount_loc = number_at 0x90 8 block;
   suballoc_loc = number_at 0x98 8 block;
@@ -47,8 +48,8 @@ dinode_fields =
     field 0x0 8 ∷ field 0x8 4 ∷ field 0xc 2 ∷ field 0xe 2 ∷ field 0x10 2 ∷ field 0x12 2 ∷ field 0x14 4
     ∷ field 0x18 4 ∷ field 0x1c 4 ∷ field 0x20 8 ∷ field 0x28 2 ∷ field 0x2a 2 ∷ field 0x2c 4 ∷ field 0x30 8
     ∷ field 0x38 8 ∷ field 0x40 8 ∷ field 0x48 8 ∷ field 0x50 8 ∷ field 0x58 8 ∷ field 0x60 4 ∷ field 0x64 4
-    ∷ field 0x68 4 ∷ field 0x6c 4 ∷ field 0x70 4 ∷ field 0x74 2 ∷ field 0x76 2 ∷ field 0x78 8 ∷ field 0x88 8
-    ∷ field 0x90 8 ∷ field 0x98 8 ∷ field 0xb8 8 ∷ []
+    ∷ field 0x68 4 ∷ field 0x6c 4 ∷ field 0x70 4 ∷ field 0x74 2 ∷ field 0x76 2 ∷ field 0x78 8 ∷ field 0x80 8
+    ∷ field 0x88 8 ∷ field 0x90 8 ∷ field 0x98 8 ∷ field 0xb8 8 ∷ []
 
 -- their numbers, in the same order
 abbrev pub dinode_numbers : Dinode → List ℕ
@@ -56,5 +57,5 @@ dinode_numbers x =
     x.signature.0 ∷ x.generation ∷ x.suballoc_slot ∷ x.suballoc_bit ∷ x.links_count_hi ∷ x.xattr_inline_size
     ∷ x.clusters ∷ x.uid ∷ x.gid ∷ x.size ∷ x.mode ∷ x.links_count ∷ x.flags.0 ∷ x.atime ∷ x.ctime ∷ x.mtime
     ∷ x.dtime ∷ x.blkno ∷ x.last_eb_blk ∷ x.fs_generation ∷ x.atime_nsec ∷ x.ctime_nsec ∷ x.mtime_nsec ∷ x.attr
-    ∷ x.orphaned_slot ∷ x.dyn_features.0 ∷ x.xattr_loc ∷ x.dx_root ∷ x.refcount_loc ∷ x.suballoc_loc
+    ∷ x.orphaned_slot ∷ x.dyn_features.0 ∷ x.xattr_loc ∷ x.check ∷ x.dx_root ∷ x.refcount_loc ∷ x.suballoc_loc
     ∷ x.role_data.0 ∷ []

@@ -10,7 +10,7 @@ use crate::{DynFeatures, Field, InodeFlags, Kind, Layout, RoleData, Signature, p
 pub const DINODE_SIZE: usize = 0xc0;
 
 /// The numbers of a dinode.
-pub const DINODE: Layout<31> = Layout {
+pub const DINODE: Layout<32> = Layout {
     fields: [
         Field { at: 0x0, width: 8 },
         Field { at: 0x8, width: 4 },
@@ -39,6 +39,7 @@ pub const DINODE: Layout<31> = Layout {
         Field { at: 0x74, width: 2 },
         Field { at: 0x76, width: 2 },
         Field { at: 0x78, width: 8 },
+        Field { at: 0x80, width: 8 },
         Field { at: 0x88, width: 8 },
         Field { at: 0x90, width: 8 },
         Field { at: 0x98, width: 8 },
@@ -46,7 +47,7 @@ pub const DINODE: Layout<31> = Layout {
     ],
 };
 
-/// The fields of `struct ocfs2_dinode` before its last union, without its check data.
+/// The fields of `struct ocfs2_dinode` before its last union.
 #[derive(Clone, Copy, Debug, PartialEq, Eq)]
 pub struct Dinode {
     pub signature: Signature,
@@ -82,6 +83,8 @@ pub struct Dinode {
     pub orphaned_slot: u16,
     pub dyn_features: DynFeatures,
     pub xattr_loc: u64,
+    /// The block's checksum and error-correcting code, with META_ECC. Nothing here reads it.
+    pub check: u64,
     /// The block of a directory's index, with INDEXED_DIR.
     pub dx_root: u64,
     /// The block of the inode's refcount tree, with HAS_REFCOUNT.
@@ -142,6 +145,7 @@ pub fn read_dinode(block: &[u8]) -> Dinode
         orphaned_slot: u16_at(block, 0x74),
         dyn_features: DynFeatures(u16_at(block, 0x76)),
         xattr_loc: u64_at(block, 0x78),
+        check: u64_at(block, 0x80),
         dx_root: u64_at(block, 0x88),
         refcount_loc: u64_at(block, 0x90),
         suballoc_loc: u64_at(block, 0x98),
@@ -149,7 +153,7 @@ pub fn read_dinode(block: &[u8]) -> Dinode
     }
 }
 
-fn dinode_values(x: &Dinode) -> [u64; 31]
+fn dinode_values(x: &Dinode) -> [u64; 32]
     ensures values { result ≡ dinode_numbers x.now }
     ensures fit { Fit DINODE.fields (dinode_numbers x.now) }
 {
@@ -181,6 +185,7 @@ fn dinode_values(x: &Dinode) -> [u64; 31]
         wide16(x.orphaned_slot),
         wide16(x.dyn_features.0),
         wide64(x.xattr_loc),
+        wide64(x.check),
         wide64(x.dx_root),
         wide64(x.refcount_loc),
         wide64(x.suballoc_loc),

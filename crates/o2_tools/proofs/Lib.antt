@@ -8,4 +8,3 @@ pub mod QueryWordLemmas
 pub mod Refusals
 pub mod Relabels
 pub mod Told
-pub mod WholeDevice

@@ -1,5 +1,6 @@
 -- When each answer to a query comes.
 use Rattle.std.specs.Prelude.{◌≡◌, ◌⊎◌, ℕ, List, Some, None}
+use Rattle.o2_disk.specs.Device.{Rose}
 use Rattle.o2_disk.specs.Output.{SinkState}
 use Rattle.o2_model.specs.Image.{Image}
 use Rattle.o2_model.specs.Superblock.{superblock_bits}
@@ -7,11 +8,13 @@ use Rattle.o2_model.specs.Features.{unsupported_feature}
 use Rattle.o2_model.specs.Volume.{Volume, opened}
 use Rattle.o2_check.specs.Skeleton.{HasSkeleton, FailsFirst}
 use Rattle.o2_debug.specs.Answers.{path_of}
-use Rattle.o2_debug.specs.Commands.{AnswersAt, TakesSomeAt, IsAbsent, IsOfWrongKind, FailsOn}
-use Rattle.o2_debug.specs.Taken.{TakesSome}
+use Rattle.o2_debug.specs.Commands.{IsAnswerText, IsAbsent, IsOfWrongKind, FailsOn}
+use Rattle.o2_debug.specs.Taken.{Takes, TakesSome}
 use Rattle.o2_debug.specs.declared.fault.DebugFault.{DebugFault}
 use Rattle.o2_debug.specs.declared.fault.DebugFault.TheVariants as debug
 use Rattle.o2_debug.specs.declared.query.Query.{Query}
+use Rattle.o2_tools.specs.CauseLines.{cause_line}
+use Rattle.o2_tools.specs.Status.{IsRefusal}
 use Rattle.o2_tools.specs.declared.cause.Cause.{Cause}
 use Rattle.o2_tools.specs.declared.cause.Cause.TheVariants.{Fine, Usage, Later, NotOcfs2, Unsupported, Absent, WrongKind, Bad, Range, DeviceFault, OutputFault, NoMemory}
 
@@ -22,26 +25,47 @@ pub record IsServed (I : Image) (P : Volume → Type 0) : Type 0 where
   pub supported : unsupported_feature I ≡ None
   pub holds : P volume
 
+-- ---- the report of a query
+-- This text is the report of the query: it answers the query, and stands where Fine would. Any other query has none.
+abbrev pub IsReportOf : Query → Image → List ℕ → Type 0
+IsReportOf query I text = IsServed I (λ v. HasSkeleton v × IsAnswerText query v text)
+
+-- the sink took the report
+abbrev pub TakesReport : Query → Image → SinkState → SinkState → Type 0
+TakesReport query I old new = (text : List ℕ) × (IsReportOf query I text × Takes old new text)
+
+-- or its first bytes, maybe none or all
+abbrev pub TakesSomeOfReport : Query → Image → SinkState → SinkState → Type 0
+TakesSomeOfReport query I old new = (text : List ℕ) × (IsReportOf query I text × TakesSome old new text)
+
+-- nothing was put, or first bytes of the report
+abbrev pub BeginsReport : Query → Image → SinkState → SinkState → Type 0
+BeginsReport query I old new = (new ≡ old) ⊎ TakesSomeOfReport query I old new
+
+-- What the sink took of a query that ended by this cause: first bytes of the report, none of one that was refused, and
+-- then the cause's line, which is whole where the sink did not fail.
+pub record IsReply (query : Query) (I : Image) (tool : List ℕ) (cause : Cause) (old new : SinkState) : Type 0 where
+  pub between : SinkState
+  pub report : BeginsReport query I old between
+  pub refused : IsRefusal cause → between ≡ old
+  pub line : TakesSome between new (cause_line tool cause)
+  pub whole : (Rose old.faults new.faults → ⊥) → Takes between new (cause_line tool cause)
+
+-- ---- the causes
 -- When each cause answers a query, where the device has this content. A fault and want of memory come where they happen.
 abbrev pub ComesFor : Query → Image → SinkState → SinkState → Cause → Type 0
-ComesFor query I old new Fine = IsServed I (λ v. HasSkeleton v × AnswersAt query v old new)
+ComesFor query I old new Fine = TakesReport query I old new
 ComesFor query I old new NotOcfs2 = superblock_bits I ≡ None
 ComesFor query I old new (Unsupported what block) = (unsupported_feature I ≡ Some what) × (block ≡ 2)
 ComesFor query I old new (Bad check b) = IsServed I (λ v. FailsFirst v check b ⊎ (HasSkeleton v × FailsOn query v check b))
 ComesFor query I old new (Absent path) = (path ≡ path_of query) × IsServed I (λ v. HasSkeleton v × IsAbsent query v)
 ComesFor query I old new (WrongKind path) = (path ≡ path_of query) × IsServed I (λ v. HasSkeleton v × IsOfWrongKind query v)
-ComesFor query I old new OutputFault = IsServed I (λ v. TakesSomeAt query v old new)
+ComesFor query I old new OutputFault = TakesSomeOfReport query I old new
 ComesFor query I old new DeviceFault = Unit {0}
 ComesFor query I old new NoMemory = Unit {0}
 ComesFor query I old new (Usage place) = ⊥
 ComesFor query I old new Later = ⊥
 ComesFor query I old new (Range which value) = ⊥
-
--- The sink took first bytes of the query's text, maybe none or all, and then first bytes of the line.
-pub record TakesTextAndLine (query : Query) (v : Volume) (line : List ℕ) (old new : SinkState) : Type 0 where
-  pub between : SinkState
-  pub text : TakesSomeAt query v old between
-  pub rest : TakesSome between new line
 
 -- why a device is not opened for a query, where it has this content
 abbrev pub RefusesVolume : Image → Cause → Type 0
@@ -58,14 +82,6 @@ IsOfOpening (Unsupported what block) = Unit {0}
 IsOfOpening DeviceFault = Unit {0}
 IsOfOpening NoMemory = Unit {0}
 IsOfOpening _ = ⊥
-
--- the causes other than Fine that answer a query
-abbrev pub IsOfQuery : Cause → Type 0
-IsOfQuery Fine = ⊥
-IsOfQuery (Usage place) = ⊥
-IsOfQuery Later = ⊥
-IsOfQuery (Range which value) = ⊥
-IsOfQuery _ = Unit {0}
 
 -- the cause of the same name, with the query's whole path
 abbrev pub cause_of_query : Query → DebugFault → Cause

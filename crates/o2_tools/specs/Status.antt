@@ -39,6 +39,36 @@ IsRefusal DeviceFault = ⊥
 IsRefusal OutputFault = ⊥
 IsRefusal NoMemory = ⊥
 
+-- the causes by which a run of tunefs ends
+abbrev pub IsOfTunefs : Cause → Type 0
+IsOfTunefs Fine = Unit {0}
+IsOfTunefs (Usage place) = ⊥
+IsOfTunefs Later = Unit {0}
+IsOfTunefs NotOcfs2 = Unit {0}
+IsOfTunefs (Unsupported what block) = ⊥
+IsOfTunefs (Absent path) = ⊥
+IsOfTunefs (WrongKind path) = ⊥
+IsOfTunefs (Bad check block) = ⊥
+IsOfTunefs (Range which value) = Unit {0}
+IsOfTunefs DeviceFault = Unit {0}
+IsOfTunefs OutputFault = Unit {0}
+IsOfTunefs NoMemory = Unit {0}
+
+-- and those by which a query of debugfs that is answered ends
+abbrev pub IsOfQuery : Cause → Type 0
+IsOfQuery Fine = Unit {0}
+IsOfQuery (Usage place) = ⊥
+IsOfQuery Later = ⊥
+IsOfQuery NotOcfs2 = Unit {0}
+IsOfQuery (Unsupported what block) = Unit {0}
+IsOfQuery (Absent path) = Unit {0}
+IsOfQuery (WrongKind path) = Unit {0}
+IsOfQuery (Bad check block) = Unit {0}
+IsOfQuery (Range which value) = ⊥
+IsOfQuery DeviceFault = Unit {0}
+IsOfQuery OutputFault = Unit {0}
+IsOfQuery NoMemory = Unit {0}
+
 -- all was done, maybe but for the output
 abbrev pub IsDone : Cause → Type 0
 IsDone Fine = Unit {0}

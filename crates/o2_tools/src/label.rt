@@ -1,12 +1,12 @@
 // A volume's label.
 ghost use Rattle.std.specs.Prelude.{◌≡◌, ◌≢◌, ◌⊎◌, ◌+◌, ◌<◌, ◌≤◌, ℕ, length, true, false, take, drop, ◌++◌, OnOk, IfOk, IfErr, OnErr, MatchResult, IsErrOf, Some, None};
 ghost use Rattle.o2_ondisk.specs.Fields.{paste_at};
-ghost use Rattle.o2_disk.specs.Device.{ReadsOnly, SameDevice, HasCause, Rose, IsSettled, IsWritable, LeavesOnly, Told};
+ghost use Rattle.o2_disk.specs.Device.{ReadsOnly, SameDevice, IsAttachedOnce, IsAttachedAtMostOnce, HasCause, Rose, IsSettled, IsWritable, LeavesOnly, Told};
 ghost use Rattle.o2_model.specs.Image.{Image};
 ghost use Rattle.o2_model.specs.Superblock.{superblock_bits, superblock, cluster_count};
 ghost use Rattle.o2_model.specs.Label.{label_field, with_label, relabelled};
 ghost use Rattle.o2_tools.specs.Answer.{is_for_later, volume_refusal, label_refusal, refusal_of, IsCauseFor};
-ghost use Rattle.o2_tools.specs.Status.{IsRefusal, IsDone};
+ghost use Rattle.o2_tools.specs.Status.{IsRefusal, IsDone, IsOfTunefs};
 ghost use Rattle.o2_view.specs.SuperSector.{IsSuperSector};
 
 use crate::cause::Cause;
@@ -30,7 +30,9 @@ pub fn set_label<D: Disk>(
     ensures length { IfErr result (λ cause. (which : _) (value : ℕ) → cause ≡ Cause.Range which value → label_refusal label.now ≡ Some cause) }
     ensures no_usage { IfErr result (λ cause. (place : ℕ) → cause ≢ Cause.Usage place) }
     ensures not_done { IfErr result (λ cause. IsDone cause → ⊥) }
-    ensures named { (IsErrOf result Cause.NoMemory → ⊥) → (D.state device.new).name ≡ name.now }
+    ensures causes { IfErr result IsOfTunefs }
+    ensures named { (IsErrOf result Cause.NoMemory → ⊥) → IsAttachedOnce name.now How.ReadWrite (D.state device.old) (D.state device.new) }
+    ensures at_most { IsAttachedAtMostOnce name.now How.ReadWrite (D.state device.old) (D.state device.new) }
     ensures fault { IsErrOf result Cause.DeviceFault → Rose (D.state device.old).faults (D.state device.new).faults }
     ensures done { OnOk result (Told (λ I J. J ≡ relabelled label.now I) (D.state device.old) (D.state device.new)) }
     ensures either { Told (λ I J. (J ≡ I) ⊎ (J ≡ relabelled label.now I)) (D.state device.old) (D.state device.new) }
@@ -60,7 +62,9 @@ fn open_volume<D: Disk>(alloc: Global, device: &mut D, name: &str) -> Result<Sup
     ensures no_range { IfErr result (λ cause. (which : _) (value : ℕ) → cause ≢ Cause.Range which value) }
     ensures no_usage { IfErr result (λ cause. (place : ℕ) → cause ≢ Cause.Usage place) }
     ensures not_done { IfErr result (λ cause. IsDone cause → ⊥) }
-    ensures named { (IsErrOf result Cause.NoMemory → ⊥) → (D.state device.new).name ≡ name.now }
+    ensures causes { IfErr result IsOfTunefs }
+    ensures named { (IsErrOf result Cause.NoMemory → ⊥) → IsAttachedOnce name.now How.ReadWrite (D.state device.old) (D.state device.new) }
+    ensures at_most { IsAttachedAtMostOnce name.now How.ReadWrite (D.state device.old) (D.state device.new) }
     ensures fault { IsErrOf result Cause.DeviceFault → Rose (D.state device.old).faults (D.state device.new).faults }
     ensures reads { ReadsOnly (D.state device.old) (D.state device.new) }
     ensures faults { OnOk result ((D.state device.new).faults ≡ (D.state device.old).faults) }

@@ -1,6 +1,7 @@
 // What a run prints at its end.
 ghost use Rattle.std.specs.Prelude.{◌≡◌, ◌≤◌, [], OnOk, OnErr};
 ghost use Rattle.o2_disk.specs.Device.{Rose, HasCause};
+ghost use Rattle.o2_disk.specs.Output.{FailsLast, StopsAtFault};
 ghost use Rattle.o2_debug.specs.Taken.{Takes, TakesSome};
 ghost use Rattle.o2_tools.specs.CauseLines.{cause_line, done_text};
 ghost use Rattle.o2_tools.specs.CommandLine.{texts, tool_of};
@@ -25,6 +26,7 @@ pub fn report<K: Sink>(
     ensures nothing { OnErr result (out.new ≡ out.old) }
     ensures memory { OnErr result (IsDone cause.now → ⊥) }
     ensures later { (K.state out.old).faults ≤ (K.state out.new).faults }
+    ensures stops { StopsAtFault (K.state out.old) (K.state out.new) }
 {
     if let Cause::Fine | Cause::OutputFault = cause {
         return Ok(());
@@ -41,6 +43,7 @@ fn put_or_fail<K: Sink>(out: &mut K, text: &[u8])
     ensures all { (Rose (K.state out.old).faults (K.state out.new).faults → ⊥) → Takes (K.state out.old) (K.state out.new) text.now }
     ensures some { TakesSome (K.state out.old) (K.state out.new) text.now }
     ensures later { (K.state out.old).faults ≤ (K.state out.new).faults }
+    ensures stops { StopsAtFault (K.state out.old) (K.state out.new) }
 {
     match put_text(out, text) {
         Ok(()) => (),
@@ -53,6 +56,7 @@ pub fn say_done<K: Sink>(out: &mut K) -> Result<(), Failed>
     ensures all { OnOk result (Takes (K.state out.old) (K.state out.new) done_text) }
     ensures some { TakesSome (K.state out.old) (K.state out.new) done_text }
     ensures cause { HasCause (K.state out.old).faults (K.state out.new).faults result }
+    ensures stops { OnErr result (FailsLast (K.state out.old) (K.state out.new)) }
 {
     put_text(out, "tunefs: done\n".as_bytes())
 }

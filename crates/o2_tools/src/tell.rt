@@ -1,17 +1,18 @@
 // The answer to a query, by the name of its device.
-ghost use Rattle.std.specs.Prelude.{◌≡◌, ◌⊎◌, ◌≤◌, ℕ, Some, None, OnOk, IfOk, IfErr, IsErrOf, MatchResult};
-ghost use Rattle.o2_disk.specs.Device.{ReadsOnly, Rose, IsWritable};
+ghost use Rattle.std.specs.Prelude.{◌≡◌, ◌≢◌, ◌⊎◌, ◌≤◌, ℕ, Some, None, OnOk, IfOk, IfErr, IsErrOf, MatchResult};
+ghost use Rattle.o2_disk.specs.Device.{ReadsOnly, Rose, IsAttachedOnce, IsAttachedAtMostOnce, IsWritable, SameDevice};
+ghost use Rattle.o2_disk.specs.Output.{FailsLast};
 ghost use Rattle.o2_model.specs.Image.{Image};
 ghost use Rattle.o2_model.specs.Features.{unsupported_feature};
-ghost use Rattle.o2_model.specs.Volume.{Volume, opened};
+ghost use Rattle.o2_model.specs.Volume.{opened};
 ghost use Rattle.o2_model.specs.declared.check.Check.{Check};
 ghost use Rattle.o2_extent.specs.Seen.{volume_seen};
 ghost use Rattle.o2_dir.specs.PathTexts.{IsPath};
 ghost use Rattle.o2_check.specs.Skeleton.{HasSkeleton, FailsFirst};
 ghost use Rattle.o2_debug.specs.Answers.{path_of};
-ghost use Rattle.o2_debug.specs.Commands.{AnswersAt, TakesSomeAt, IsAbsent, IsOfWrongKind, FailsOn};
-ghost use Rattle.o2_tools.specs.Replies.{ComesFor, RefusesVolume, IsOfOpening, IsOfQuery, cause_of_query};
-ghost use Rattle.o2_tools.specs.Status.{IsRefusal};
+ghost use Rattle.o2_debug.specs.Commands.{AnswersAt, AnswersSomeAt, IsAbsent, IsOfWrongKind, FailsOn};
+ghost use Rattle.o2_tools.specs.Replies.{ComesFor, BeginsReport, RefusesVolume, IsOfOpening, cause_of_query};
+ghost use Rattle.o2_tools.specs.Status.{IsRefusal, IsOfQuery};
 
 use crate::cause::Cause;
 use crate::superblock::unsupported;
@@ -40,13 +41,15 @@ pub fn tell<D: Disk, K: Sink>(
     ensures answer { (I : Image) → (D.state device.old).content ≡ Some I
         → MatchResult result (λ _. ComesFor query I (K.state out.old) (K.state out.new) Cause.Fine) (ComesFor query I (K.state out.old) (K.state out.new)) }
     ensures causes { IfErr result IsOfQuery }
+    ensures not_fine { IfErr result (λ cause. cause ≢ Cause.Fine) }
     ensures silent { (I : Image) → (D.state device.old).content ≡ Some I → IfErr result (λ cause. IsRefusal cause → out.new ≡ out.old) }
-    ensures some { (I : Image) → (D.state device.old).content ≡ Some I → (v : Volume) → opened I ≡ Some v → TakesSomeAt query v (K.state out.old) (K.state out.new) }
+    ensures some { (I : Image) → (D.state device.old).content ≡ Some I → BeginsReport query I (K.state out.old) (K.state out.new) }
     ensures reads { ReadsOnly (D.state device.old) (D.state device.new) }
     ensures not_writable { IsWritable (D.state device.new).attached → ⊥ }
-    ensures named { (IsErrOf result Cause.NoMemory → ⊥) → (D.state device.new).name ≡ name.now }
+    ensures named { (IsErrOf result Cause.NoMemory → ⊥) → IsAttachedOnce name.now How.ReadOnly (D.state device.old) (D.state device.new) }
+    ensures at_most { IsAttachedAtMostOnce name.now How.ReadOnly (D.state device.old) (D.state device.new) }
     ensures fault { IsErrOf result Cause.DeviceFault → Rose (D.state device.old).faults (D.state device.new).faults }
-    ensures output { IsErrOf result Cause.OutputFault → Rose (K.state out.old).faults (K.state out.new).faults }
+    ensures output { IsErrOf result Cause.OutputFault → FailsLast (K.state out.old) (K.state out.new) }
     ensures quiet { (IsErrOf result Cause.OutputFault → ⊥) → (K.state out.new).faults ≡ (K.state out.old).faults }
 {
     let geo = open_for_reading(alloc, device, name)?;
@@ -63,7 +66,8 @@ fn open_for_reading<D: Disk>(alloc: Global, device: &mut D, name: &str) -> Resul
     ensures most { IfOk result (λ geo. geo.block_bits ≤ 12) }
     ensures refused { IfErr result (λ cause. (I : Image) → (D.state device.old).content ≡ Some I → RefusesVolume I cause) }
     ensures causes { IfErr result IsOfOpening }
-    ensures named { (IsErrOf result Cause.NoMemory → ⊥) → (D.state device.new).name ≡ name.now }
+    ensures named { (IsErrOf result Cause.NoMemory → ⊥) → IsAttachedOnce name.now How.ReadOnly (D.state device.old) (D.state device.new) }
+    ensures at_most { IsAttachedAtMostOnce name.now How.ReadOnly (D.state device.old) (D.state device.new) }
     ensures fault { IsErrOf result Cause.DeviceFault → Rose (D.state device.old).faults (D.state device.new).faults }
     ensures reads { ReadsOnly (D.state device.old) (D.state device.new) }
     ensures not_writable { IsWritable (D.state device.new).attached → ⊥ }
@@ -95,7 +99,10 @@ fn ask<D: Disk, K: Sink>(
     requires path { IsPath (path_of query.now) }
     ensures skeleton { OnOk result ((I : Image) → (D.state device.old).content ≡ Some I → HasSkeleton (volume_seen geo.now I)) }
     ensures all { OnOk result ((I : Image) → (D.state device.old).content ≡ Some I → AnswersAt query.now (volume_seen geo.now I) (K.state out.old) (K.state out.new)) }
-    ensures some { (I : Image) → (D.state device.old).content ≡ Some I → TakesSomeAt query.now (volume_seen geo.now I) (K.state out.old) (K.state out.new) }
+    ensures some { (I : Image) → (D.state device.old).content ≡ Some I
+        → (K.state out.new ≡ K.state out.old) ⊎ (HasSkeleton (volume_seen geo.now I) × AnswersSomeAt query.now (volume_seen geo.now I) (K.state out.old) (K.state out.new)) }
+    ensures cut { IsErrOf result DebugFault.OutputFault → (I : Image) → (D.state device.old).content ≡ Some I
+        → HasSkeleton (volume_seen geo.now I) × AnswersSomeAt query.now (volume_seen geo.now I) (K.state out.old) (K.state out.new) }
     ensures absent { IsErrOf result DebugFault.Absent → (I : Image) → (D.state device.old).content ≡ Some I → HasSkeleton (volume_seen geo.now I) × IsAbsent query.now (volume_seen geo.now I) }
     ensures kind { IsErrOf result DebugFault.WrongKind → (I : Image) → (D.state device.old).content ≡ Some I → HasSkeleton (volume_seen geo.now I) × IsOfWrongKind query.now (volume_seen geo.now I) }
     ensures bad { IfErr result (λ fault. (check : Check) (b : ℕ) → fault ≡ DebugFault.Bad check b → (I : Image) → (D.state device.old).content ≡ Some I
@@ -104,10 +111,9 @@ fn ask<D: Disk, K: Sink>(
     ensures unasked { IsErrOf result DebugFault.WrongKind → out.new ≡ out.old }
     ensures not_found { IsErrOf result DebugFault.Absent → out.new ≡ out.old }
     ensures reads { ReadsOnly (D.state device.old) (D.state device.new) }
-    ensures name { (D.state device.new).name ≡ (D.state device.old).name }
-    ensures attached { (D.state device.new).attached ≡ (D.state device.old).attached }
+    ensures device { SameDevice (D.state device.old) (D.state device.new) }
     ensures fault { IsErrOf result DebugFault.DeviceFault → Rose (D.state device.old).faults (D.state device.new).faults }
-    ensures output { IsErrOf result DebugFault.OutputFault → Rose (K.state out.old).faults (K.state out.new).faults }
+    ensures output { IsErrOf result DebugFault.OutputFault → FailsLast (K.state out.old) (K.state out.new) }
     ensures quiet { (IsErrOf result DebugFault.OutputFault → ⊥) → (K.state out.new).faults ≡ (K.state out.old).faults }
 {
     let blocks = device.sectors() >> (geo.block_bits - 9);

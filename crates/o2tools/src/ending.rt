@@ -13,6 +13,8 @@ pub enum Ending {
     NoMemory,
     /// The system gives no random bytes.
     NoRandom,
+    /// A standard descriptor is closed, and the null device can't be opened in its place.
+    NoNull,
 }
 
 impl Ending {
@@ -21,6 +23,7 @@ impl Ending {
         ensures { result ≡ status_before self }
     {
         match self {
+            Ending::NoNull => 8,
             Ending::NotText => 16,
             Ending::NoMemory => 64,
             Ending::NoRandom => 66,

@@ -1,8 +1,10 @@
 //! The program: what the system gives, handed to the tool that the words name.
 #![tactic(auto)]
 
+mod descriptors;
 mod ending;
 
+use descriptors::open_standard;
 use ending::Ending;
 use o2_disk::{FileDisk, StdSink};
 use o2_tools::run;
@@ -41,6 +43,9 @@ fn now(rt: HostRuntime) -> u64 {
 }
 
 fn status(rt: HostRuntime) -> Result<u8, Ending> {
+    if open_standard(rt).is_err() {
+        return Err(Ending::NoNull);
+    }
     let words = words(rt)?;
     let random = random(rt)?;
     let mut device = FileDisk::new(rt, rt.alloc());

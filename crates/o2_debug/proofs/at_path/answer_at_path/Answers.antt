@@ -1,13 +1,11 @@
 -- The inode that the path leads to is a valid dinode, and there is no other.
-use Rattle.std.proofs.Common.{◌≡◌, ℕ, List, arith, sym, ◌∙◌, subst}
-use Rattle.std.proofs.lemmas.Result.{IfErr-weaker}
+use Rattle.std.proofs.Common.{inl, inr, arith, sym, ◌∙◌, subst}
+use Rattle.std.proofs.lemmas.Result.{IfErr-weaker, on_ok_weaker}
 use Rattle.o2_extent.specs.Seen.{volume_seen}
 use Rattle.o2_extent.proofs.Views.{still_in}
 use Rattle.o2_dir.specs.PathTexts.{IsPath}
-use Rattle.o2_dir.specs.Paths.{Begins}
 use Rattle.o2_debug.specs.Answers.{text_of}
-use Rattle.o2_debug.specs.Taken.{TakesSome}
-use Rattle.o2_debug.proofs.AtPath.{leads_to_valid, leads_once}
+use Rattle.o2_debug.proofs.AtPath.{leads_to_valid, answer_text}
 use Rattle.o2_debug.proofs.at_path.answer_at_path.Goals as goal
 
 pub answer-requires : goal.answer-requires
@@ -27,13 +25,26 @@ answer-requires g c = (
   ),
 )
 
-pub returns-clause-some : goal.returns-clause-some
-returns-clause-some g c I told start names b begins leads =
+pub returns-clause-all : goal.returns-clause-all
+returns-clause-all g c =
+    on_ok_weaker c.answer.result (λ answers I told.
     let v = volume_seen c.args.geo.now I in
-    let mine = c.in-Ok.ensures.leads I told start names (subst (λ (t : List ℕ). Begins c.args.geo.now t start names) (sym c.path.ensures) begins) in
-    let same : c.in-Ok.inode ≡ b = leads_once v names start c.in-Ok.inode b mine leads in
-    subst (λ (n : ℕ). TakesSome (g.K.Sink.state c.args.out.now) (g.K.Sink.state c.answer.new.out) (text_of c.args.query.now v n)) same
-    (c.answer.ensures.some I (c.path-2.ensures.reads.reads.content ∙ told))
+    let done = answers I (c.path-2.ensures.reads.reads.content ∙ told) in
+    (text_of c.args.query.now v c.in-Ok.inode, (answer_text c.args.query.now v c.path.result.now c.in-Ok.inode c.path.ensures (c.in-Ok.ensures.leads I told) done.answered, done.taken))) c.answer.ensures.all
+
+pub returns-clause-some : goal.returns-clause-some
+returns-clause-some g c I told =
+    let v = volume_seen c.args.geo.now I in
+    elim (c.answer.ensures.some I (c.path-2.ensures.reads.reads.content ∙ told)) [
+      | inl nothing ↦ inl nothing
+      | inr put ↦ inr (text_of c.args.query.now v c.in-Ok.inode, (answer_text c.args.query.now v c.path.result.now c.in-Ok.inode c.path.ensures (c.in-Ok.ensures.leads I told) put.answered, put.some))
+    ]
+
+pub returns-clause-cut : goal.returns-clause-cut
+returns-clause-cut g c failed I told =
+    let v = volume_seen c.args.geo.now I in
+    let put = c.answer.ensures.cut failed I (c.path-2.ensures.reads.reads.content ∙ told) in
+    (text_of c.args.query.now v c.in-Ok.inode, (answer_text c.args.query.now v c.path.result.now c.in-Ok.inode c.path.ensures (c.in-Ok.ensures.leads I told) put.answered, put.some))
 
 pub returns-clause-untouched : goal.returns-clause-untouched
 returns-clause-untouched g c =

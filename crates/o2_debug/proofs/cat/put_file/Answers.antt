@@ -2,6 +2,7 @@
 use Rattle.std.proofs.Common.{arith, ◌∙◌}
 use Rattle.o2_extent.specs.Seen.{volume_seen}
 use Rattle.o2_extent.proofs.Views.{only_both}
+use Rattle.o2_disk.proofs.Sinks.{fails_behind}
 use Rattle.o2_debug.proofs.CatLemmas.{so_far, at_end, piece_more, some_more}
 use Rattle.o2_debug.proofs.cat.put_file.Goals as goal
 
@@ -29,3 +30,6 @@ returns-clause-all g c I told = at_end (volume_seen c.args.geo.now I) c.args.ino
 
 pub returns-clause-some : goal.returns-clause-some
 returns-clause-some g c I told = so_far (volume_seen c.args.geo.now I) c.args.inode c.loop-at.at (c.loop-at.invariant.taken I told)
+
+pub returns-in_default-clause-output : goal.returns-in_default-clause-output
+returns-in_default-clause-output g c failed = fails_behind (g.K.Sink.state c.args.out.now) (g.K.Sink.state c.loop-at.out) (g.K.Sink.state c.put_text.new.out) c.loop-at.invariant.faults c.in_default.ensures.stops

@@ -1,5 +1,5 @@
 -- The path is followed where the skeleton is sound, on what the judge left of the view.
-use Rattle.std.proofs.Common.{inr, arith, sym, ◌∙◌}
+use Rattle.std.proofs.Common.{inl, inr, arith, sym, ◌∙◌}
 use Rattle.std.proofs.lemmas.Result.{IfErr-weaker}
 use Rattle.o2_extent.specs.Seen.{volume_seen}
 use Rattle.o2_extent.proofs.Views.{still_in}
@@ -35,3 +35,13 @@ returns-in-Ok-clause-untouched g c =
     IfErr-weaker c.answer_at_path.result _ _
     (λ fault same check b is I told. same check b is I (c.judge_skeleton.ensures.reads.reads.content ∙ told))
     c.answer_at_path.ensures.untouched
+
+pub returns-in-Ok-clause-some : goal.returns-in-Ok-clause-some
+returns-in-Ok-clause-some g c I told =
+    elim (c.answer_at_path.ensures.some I (c.judge_skeleton.ensures.reads.reads.content ∙ told)) [
+      | inl nothing ↦ inl nothing
+      | inr put ↦ inr (c.in-Ok.ensures.sound I told, put)
+    ]
+
+pub returns-in-Ok-clause-cut : goal.returns-in-Ok-clause-cut
+returns-in-Ok-clause-cut g c failed I told = (c.in-Ok.ensures.sound I told, c.answer_at_path.ensures.cut failed I (c.judge_skeleton.ensures.reads.reads.content ∙ told))

@@ -1,10 +1,10 @@
 -- The file: nothing is wrong with it any more.
-use Rattle.std.proofs.Common.{arith, sym, ◌∙◌, ap}
+use Rattle.std.proofs.Common.{inr, arith, sym, ◌∙◌, ap}
 use Rattle.o2_ondisk.specs.declared.dinode.Dinode.{Dinode}
 use Rattle.std.proofs.lemmas.Result.{IfErr-weaker}
 use Rattle.o2_extent.specs.Seen.{volume_seen}
 use Rattle.o2_extent.proofs.Views.{still_in}
-use Rattle.o2_debug.proofs.AnswerLemmas.{file_kind, file_has_bytes, data_holds}
+use Rattle.o2_debug.proofs.AnswerLemmas.{file_kind, file_has_bytes, data_holds, cat_answerable}
 use Rattle.o2_debug.proofs.last_object.answer_cat.Goals as goal
 
 pub put_file-requires : goal.put_file-requires
@@ -39,3 +39,17 @@ pub returns-clause-untouched : goal.returns-clause-untouched
 returns-clause-untouched g c =
     IfErr-weaker c.put_file.result _ _ (λ y fails check b is I told.
     absurd (data_holds (volume_seen c.args.geo.now I) c.args.inode check b (c.in-Ok.ensures.sound I told) (fails check b is I (c.judge.ensures.reads.reads.content ∙ told)))) c.put_file.ensures.bad
+
+pub returns-clause-some : goal.returns-clause-some
+returns-clause-some g c path I told =
+    let v = volume_seen c.args.geo.now I in
+    let after = c.judge.ensures.reads.reads.content ∙ told in
+    let kind = file_kind v c.args.inode c.in-Ok.d (c.in-Ok.ensures.dinode I told) _ (sym c.is_of_file.ensures ∙ c.if-not-is_of_file.false) in
+    inr (record { answered = cat_answerable v c.args.inode path (c.in-Ok.ensures.sound I told) kind; some = c.put_file.ensures.some I after })
+
+pub returns-clause-cut : goal.returns-clause-cut
+returns-clause-cut g c path failed I told =
+    let v = volume_seen c.args.geo.now I in
+    let after = c.judge.ensures.reads.reads.content ∙ told in
+    let kind = file_kind v c.args.inode c.in-Ok.d (c.in-Ok.ensures.dinode I told) _ (sym c.is_of_file.ensures ∙ c.if-not-is_of_file.false) in
+    record { answered = cat_answerable v c.args.inode path (c.in-Ok.ensures.sound I told) kind; some = c.put_file.ensures.some I after }

@@ -2,6 +2,7 @@
 use Rattle.std.proofs.Common.{◌+◌, drop, arith, ◌∙◌, ap, refl}
 use Rattle.std.specs.List.{concat}
 use Rattle.std.proofs.lemmas.List.{take_all}
+use Rattle.o2_disk.proofs.Sinks.{fails_behind}
 use Rattle.o2_debug.proofs.Fronts.{takes_nothing, takes_both, takes_as, all_is_some, some_of_next, some_of_both, some_as, lines_more, lines_around}
 use Rattle.o2_debug.proofs.output.put_lines.Goals as goal
 
@@ -35,3 +36,6 @@ returns-clause-some g c =
     let lines = c.args.lines.now in
     let i = c.loop-line.line-index in
     all_is_some (takes_as (ap concat (take_all i lines (omega (arith, c.loop-line-test.false)))) c.loop-line.invariant.taken)
+
+pub returns-in_err-put_text-clause-stops : goal.returns-in_err-put_text-clause-stops
+returns-in_err-put_text-clause-stops g c = fails_behind _ _ _ c.loop-line.invariant.faults c.in_err-put_text.ensures.stops

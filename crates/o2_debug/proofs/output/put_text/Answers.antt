@@ -1,5 +1,6 @@
 -- What was taken before a fault, and one piece more.
 use Rattle.std.proofs.Common.{arith, ◌∙◌, length-drop, refl}
+use Rattle.o2_disk.proofs.Sinks.{fails_behind}
 use Rattle.o2_debug.proofs.Fronts.{takes_nothing, takes_more, takes_whole, all_is_some, stopped_at}
 use Rattle.o2_debug.proofs.output.put_text.Goals as goal
 
@@ -25,3 +26,6 @@ returns-clause-all g c = takes_whole c.loop-put.put c.args.text.now (omega (arit
 
 pub returns-clause-some : goal.returns-clause-some
 returns-clause-some g c = all_is_some (takes_whole c.loop-put.put c.args.text.now (omega (arith, c.loop-put-test.false)) c.loop-put.invariant.taken)
+
+pub returns-in_err-put-clause-stops : goal.returns-in_err-put-clause-stops
+returns-in_err-put-clause-stops g c = fails_behind _ _ _ c.loop-put.invariant.faults c.in_err-put.ensures.failed

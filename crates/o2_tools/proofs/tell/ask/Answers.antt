@@ -1,7 +1,7 @@
 -- The view is of all whole blocks of the device.
 use Rattle.std.proofs.Common.{arith, sym, ◌∙◌, ap}
 use Rattle.std.proofs.lemmas.Result.{IfErr-weaker}
-use Rattle.o2_tools.proofs.WholeDevice.{whole_blocks}
+use Rattle.o2_debug.proofs.WholeDevice.{whole_blocks}
 use Rattle.o2_tools.proofs.tell.ask.Goals as goal
 
 pub command-requires : goal.command-requires

@@ -1,5 +1,5 @@
 use Rattle.std.proofs.Common.{arith}
-use Rattle.std.specs.Prelude.{string_bytes}
+use Rattle.o2_disk.specs.Attaches.{attachments_of}
 use Rattle.o2_disk.proofs.Settled.{settled_base, agrees_base, untouched_base, touched_none}
 use Rattle.o2_disk.proofs.mem_disk.MemDisk.settled.Goals as goal
 
@@ -13,4 +13,4 @@ invariant_of-result c = record {
 }
 
 pub returns-clause-settled : goal.returns-clause-settled
-returns-clause-settled c = settled_base (string_bytes c.new.result) _ c.args.sectors c.args.maps.base c.new-2.result.items _ c.new-2.ensures.items
+returns-clause-settled c = settled_base (attachments_of c.new.result.items) _ c.args.sectors c.args.maps.base c.new-2.result.items _ c.new-2.ensures.items

@@ -1,5 +1,5 @@
 use Rattle.std.proofs.Common.{refl, arith}
-use Rattle.std.specs.Prelude.{string_bytes}
+use Rattle.o2_disk.specs.Attaches.{attachments_of}
 use Rattle.o2_disk.specs.declared.call.Call.TheVariants.{Read}
 use Rattle.o2_disk.proofs.Noted.{agrees_more, touched_more, elapses_more, keeps_plain, pending_plain, bytes_read}
 use Rattle.o2_disk.proofs.mem_disk.MemDiskDisk.read.Goals as goal
@@ -18,7 +18,7 @@ invariant_of-self-then-fails c =
 pub returns-then-fails-clause-same : goal.returns-then-fails-clause-same
 returns-then-fails-clause-same c =
     let m = c.args.self.now in
-    keeps_plain m.base m.calls.items c.note.new.calls.items Read c.in-Ok.ensures.ok (string_bytes m.name) m.attached m.sectors m.faults _ (λ _. refl)
+    keeps_plain m.base m.calls.items c.note.new.calls.items Read c.in-Ok.ensures.ok (attachments_of m.attaches.items) m.attached m.sectors m.faults _ (λ _. refl)
 
 pub returns-then-fails-clause-pending : goal.returns-then-fails-clause-pending
 returns-then-fails-clause-pending c =
@@ -28,7 +28,7 @@ returns-then-fails-clause-pending c =
 pub returns-then-fails-clause-time : goal.returns-then-fails-clause-time
 returns-then-fails-clause-time c =
     let m = c.args.self.now in
-    elapses_more m.base m.calls.items c.note.new.calls.items Read c.in-Ok.ensures.ok (string_bytes m.name) m.attached m.sectors m.faults _
+    elapses_more m.base m.calls.items c.note.new.calls.items Read c.in-Ok.ensures.ok (attachments_of m.attaches.items) m.attached m.sectors m.faults _
 
 pub invariant_of-self-else-fails : goal.invariant_of-self-else-fails
 invariant_of-self-else-fails c =
@@ -49,7 +49,7 @@ returns-clause-bytes c I told =
 pub returns-clause-same : goal.returns-clause-same
 returns-clause-same c =
     let m = c.args.self.now in
-    keeps_plain m.base m.calls.items c.note.new.calls.items Read c.in-Ok.ensures.ok (string_bytes m.name) m.attached m.sectors m.faults m.faults (λ _. refl)
+    keeps_plain m.base m.calls.items c.note.new.calls.items Read c.in-Ok.ensures.ok (attachments_of m.attaches.items) m.attached m.sectors m.faults m.faults (λ _. refl)
 
 pub returns-clause-pending : goal.returns-clause-pending
 returns-clause-pending c =
@@ -59,4 +59,4 @@ returns-clause-pending c =
 pub returns-clause-time : goal.returns-clause-time
 returns-clause-time c =
     let m = c.args.self.now in
-    elapses_more m.base m.calls.items c.note.new.calls.items Read c.in-Ok.ensures.ok (string_bytes m.name) m.attached m.sectors m.faults m.faults
+    elapses_more m.base m.calls.items c.note.new.calls.items Read c.in-Ok.ensures.ok (attachments_of m.attaches.items) m.attached m.sectors m.faults m.faults

@@ -1,5 +1,5 @@
 use Rattle.std.proofs.Common.{◌≡◌, ◌++◌, ◌∷◌, [], refl, ◌∙◌, ap}
-use Rattle.std.specs.Prelude.{string_bytes}
+use Rattle.o2_disk.specs.Attaches.{attachments_of}
 use Rattle.o2_disk.specs.declared.call.Call.{Call}
 use Rattle.o2_disk.specs.declared.call.Call.TheVariants.{Sync, FailedSync}
 use Rattle.o2_disk.proofs.Noted.{agrees_more, touched_more, elapses_more, keeps_plain, pending_plain, keeps_sync, durable}
@@ -21,7 +21,7 @@ pub returns-then-fails-clause-same : goal.returns-then-fails-clause-same
 returns-then-fails-clause-same c =
     let m = c.args.self.now in
     let is : c.note.new.calls.items ≡ m.calls.items ++ FailedSync ∷ [] = c.in-Ok.ensures.ok ∙ ap (λ (x : Call). m.calls.items ++ x ∷ []) (c.sync_call.ensures.failed c.if-fails.true) in
-    keeps_plain m.base m.calls.items c.note.new.calls.items FailedSync is (string_bytes m.name) m.attached m.sectors m.faults _ (λ _. refl)
+    keeps_plain m.base m.calls.items c.note.new.calls.items FailedSync is (attachments_of m.attaches.items) m.attached m.sectors m.faults _ (λ _. refl)
 
 pub returns-then-fails-clause-pending : goal.returns-then-fails-clause-pending
 returns-then-fails-clause-pending c =
@@ -32,7 +32,7 @@ returns-then-fails-clause-pending c =
 pub returns-then-fails-clause-time : goal.returns-then-fails-clause-time
 returns-then-fails-clause-time c =
     let m = c.args.self.now in
-    elapses_more m.base m.calls.items c.note.new.calls.items _ c.in-Ok.ensures.ok (string_bytes m.name) m.attached m.sectors m.faults _
+    elapses_more m.base m.calls.items c.note.new.calls.items _ c.in-Ok.ensures.ok (attachments_of m.attaches.items) m.attached m.sectors m.faults _
 
 pub invariant_of-self-else-fails : goal.invariant_of-self-else-fails
 invariant_of-self-else-fails c =
@@ -56,9 +56,9 @@ pub returns-clause-same : goal.returns-clause-same
 returns-clause-same c =
     let m = c.args.self.now in
     let is : c.note.new.calls.items ≡ m.calls.items ++ Sync ∷ [] = c.in-Ok.ensures.ok ∙ ap (λ (x : Call). m.calls.items ++ x ∷ []) (c.sync_call.ensures.done c.if-fails.false) in
-    keeps_sync m.base m.calls.items c.note.new.calls.items is m.sectors (string_bytes m.name) m.attached m.faults m.faults
+    keeps_sync m.base m.calls.items c.note.new.calls.items is m.sectors (attachments_of m.attaches.items) m.attached m.faults m.faults
 
 pub returns-clause-time : goal.returns-clause-time
 returns-clause-time c =
     let m = c.args.self.now in
-    elapses_more m.base m.calls.items c.note.new.calls.items _ c.in-Ok.ensures.ok (string_bytes m.name) m.attached m.sectors m.faults m.faults
+    elapses_more m.base m.calls.items c.note.new.calls.items _ c.in-Ok.ensures.ok (attachments_of m.attaches.items) m.attached m.sectors m.faults m.faults

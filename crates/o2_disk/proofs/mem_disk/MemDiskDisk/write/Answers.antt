@@ -1,5 +1,5 @@
 use Rattle.std.proofs.Common.{arith}
-use Rattle.std.specs.Prelude.{string_bytes}
+use Rattle.o2_disk.specs.Attaches.{attachments_of}
 use Rattle.o2_disk.proofs.Noted.{agrees_write, touched_write, sound_write, elapses_more, content_written, told_write, pending_write, follows_write, leads_write}
 use Rattle.o2_disk.proofs.mem_disk.MemDiskDisk.write.Goals as goal
 
@@ -32,7 +32,7 @@ returns-then-fails-clause-pending c =
 pub returns-then-fails-clause-time : goal.returns-then-fails-clause-time
 returns-then-fails-clause-time c =
     let m = c.args.self.now in
-    elapses_more m.base m.calls.items c.keep.new.calls.items c.in-Ok.ensures.recorded.0 c.in-Ok.ensures.recorded.1 (string_bytes m.name) m.attached m.sectors m.faults _
+    elapses_more m.base m.calls.items c.keep.new.calls.items c.in-Ok.ensures.recorded.0 c.in-Ok.ensures.recorded.1 (attachments_of m.attaches.items) m.attached m.sectors m.faults _
 
 pub invariant_of-self-else-fails : goal.invariant_of-self-else-fails
 invariant_of-self-else-fails c =
@@ -73,4 +73,4 @@ returns-clause-tears c =
 pub returns-clause-time : goal.returns-clause-time
 returns-clause-time c =
     let m = c.args.self.now in
-    elapses_more m.base m.calls.items c.keep.new.calls.items c.in-Ok.ensures.recorded.0 c.in-Ok.ensures.recorded.1 (string_bytes m.name) m.attached m.sectors m.faults m.faults
+    elapses_more m.base m.calls.items c.keep.new.calls.items c.in-Ok.ensures.recorded.0 c.in-Ok.ensures.recorded.1 (attachments_of m.attaches.items) m.attached m.sectors m.faults m.faults

@@ -1,0 +1,10 @@
+pub mod SmallBytes
+pub mod SmallEntries
+pub mod SmallVolumes
+pub mod SmallFiles
+pub mod SmallGroups
+pub mod SmallLogs
+pub mod WholeInodes
+pub mod WholeVolume
+pub mod DirtyVolume
+pub mod OtherVolumes

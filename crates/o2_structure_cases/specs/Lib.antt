@@ -1,0 +1,3 @@
+pub mod SmallSlots
+pub mod BackupVolume
+pub mod HandMadeTree
