@@ -1,5 +1,5 @@
 -- What the finite maps of a volume have: the tree the first of each path, files and sharing what belongs to the number.
-use Rattle.std.proofs.Common.{◌≡◌, inl, inr, ℕ, Bool, true, false, cond, ◌||◌, ◌==◌, List, [], ◌∷◌, map, refl, sym, ◌∙◌, ap, Option, Some, None, arith}
+use Rattle.std.proofs.Common.{◌≡◌, inl, inr, ℕ, Bool, true, false, cond, ◌==◌, List, [], ◌∷◌, map, refl, sym, ◌∙◌, ap, Option, Some, None, arith}
 use Rattle.std.specs.FinMap as finite
 use Rattle.std.specs.FinMap.{IsAntisymmetric, slice_cmp-IsAntisymmetric, nat_cmp-IsAntisymmetric}
 use Rattle.std.specs.List.{Contains}
@@ -14,7 +14,7 @@ use Rattle.o2_model.specs.Words.{among}
 use Rattle.o2_model.specs.Volume.{Volume}
 use Rattle.o2_model.specs.Tree.{path_cmp, tree_of, inode_at, tree_walk, tree_inodes}
 use Rattle.o2_model.specs.Files.{file_of, files_of, tree_sharing, shared_clusters, times_in}
-use Rattle.o2_laws.proofs.Found.{contains_first, contains_later}
+use Rattle.o2_laws.proofs.Found.{contains_first, contains_later, either}
 use Rattle.o2_laws.proofs.Members.{contains_one, contains_flat, flat_contains, contains_among, among_contains}
 
 pub path_cmp_total : IsTotalOrder path_cmp
@@ -24,10 +24,6 @@ pub tree-first : (v : Volume) (path : List (List ℕ)) → finite.get (tree_of v
 tree-first v path = finite.get-from_entries path_cmp_total (tree_walk v).names path
 
 -- a number among pairs of numbers with what a function makes of them
-either : {A : Type 0} (a b : Bool) (x : A) (o : Option A) → o ≡ cond b (Some x) None → cond a (Some x) o ≡ cond (a || b) (Some x) None
-either true b x o h = refl
-either false b x o h = h
-
 find-made : {A : Type 0} (f : ℕ → A) (ns : List ℕ) (n : ℕ) → finite.find nat_cmp n (map (λ m. (m, f m)) ns) ≡ cond (among ns n) (Some (f n)) None
 find-made f [] n = refl
 find-made f (m ∷ ms) n =

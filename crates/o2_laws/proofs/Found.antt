@@ -1,11 +1,12 @@
 -- Where a list is mapped, joined or filtered, a test finds what it found before.
-use Rattle.std.proofs.Common.{◌≡◌, inl, inr, ℕ, zero, suc, ◌+◌, ◌-◌, ◌<◌, ◌≤◌, Bool, true, ◌&&◌, ◌||◌, List, [], ◌∷◌, ◌++◌, map, length, refl, sym, ◌∙◌, ap, arith, Some}
+use Rattle.std.proofs.Common.{◌≡◌, inl, inr, ℕ, zero, suc, ◌+◌, ◌-◌, ◌<◌, ◌≤◌, Bool, true, ◌&&◌, ◌||◌, List, [], ◌∷◌, ◌++◌, map, length, refl, sym, ◌∙◌, ap, arith, Some, cond, Option, None, false}
 use Rattle.std.specs.Prelude.{flat_map, filter, find, slice_get}
 use Rattle.std.specs.List.{list_any, list_all, AllByRecursion, Contains, range_with_len}
 use Rattle.std.proofs.lemmas.Bool.{cases_Bool, false≢true}
 use Rattle.std.proofs.lemmas.List.Folds.{list_any-append, list_any_at, list_all_at}
 use Rattle.std.proofs.lemmas.List.FromFn.{length-range_with_len, get_or-range_with_len}
 use Rattle.o2_model.specs.Words.{push}
+use Rattle.o2_model.specs.Orders.{is_none_of}
 
 pub found : {A : Type 0} (p : A → Bool) (xs : List A) (x : A) → Contains xs x → p x ≡ true → list_any p xs ≡ true
 found p xs x is h = list_any_at p xs is.0 x is.1 (ap p is.2 ∙ h)
@@ -94,6 +95,11 @@ pub map_none : {A B : Type 0} (f : A → B) (xs : List A) → map f xs ≡ [] �
 map_none f [] h = refl
 map_none f (x ∷ xs) h = cc
 
+-- by the test of it
+pub none_of : {A : Type 0} (xs : List A) → is_none_of xs ≡ true → xs ≡ []
+none_of [] h = refl
+none_of (x ∷ xs) h = absurd (false≢true h)
+
 pub none_of_length : {A : Type 0} (xs : List A) → length xs ≡ 0 → xs ≡ []
 none_of_length [] h = refl
 none_of_length (x ∷ xs) h = absurd (omega arith)
@@ -112,3 +118,9 @@ pub all_get : {A : Type 0} (P : A → Type 0) (xs : List A) (k : ℕ) (x : A) �
 all_get P [] k x all is = cc
 all_get P (y ∷ ys) zero x all is = let same : y ≡ x = cc in rw (← same) all.0
 all_get P (y ∷ ys) (suc k) x all is = all_get P ys k x all.1 is
+
+-- ---- what is found first
+-- one test more: the first that passes either is found where the other one is not
+pub either : {A : Type 0} (a b : Bool) (x : A) (o : Option A) → o ≡ cond b (Some x) None → cond a (Some x) o ≡ cond (a || b) (Some x) None
+either true b x o h = refl
+either false b x o h = h

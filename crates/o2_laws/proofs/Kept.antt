@@ -1,4 +1,4 @@
--- What blocks that agree on the owned ones keep: each check, claims, and what a user has.
+-- What blocks that agree on the held ones keep: each check, claims, and what a user has.
 pub mod RootsKeep
 pub mod BlockNames
 pub mod RefcountsKeep
@@ -6,6 +6,9 @@ pub mod MetadataKeeps
 pub mod SharingKeeps
 pub mod GroupChecksKeep
 pub mod JournalsKeep
+pub mod JournalUses
+pub mod JournalSupers
+pub mod JournalsApart
 pub mod OdditiesKeep
 pub mod InodeChecksKeep
 pub mod SkeletonKeeps
@@ -25,5 +28,5 @@ pub mod DxKeeps
 pub mod SlotPartsKeep
 pub mod AllocBitsKeep
 pub mod DupClustersKeeps
-pub mod OwnedChecks
+pub mod KeptChecks
 pub mod ConsistentImages

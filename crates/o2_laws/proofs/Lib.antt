@@ -24,5 +24,5 @@ pub mod SameTree
 pub mod SameInodes
 pub mod IntactSteps
 pub mod LogReadings
-pub mod Owned
+pub mod Held
 pub mod Kept

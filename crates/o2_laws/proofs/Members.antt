@@ -1,11 +1,12 @@
 -- What is a member of a list that is filtered, joined or put in order.
-use Rattle.std.proofs.Common.{◌≡◌, ◌⊎◌, inl, inr, ℕ, zero, suc, Bool, true, ◌==◌, List, [], ◌∷◌, refl, sym, subst, arith}
+use Rattle.std.proofs.Common.{◌≡◌, ◌⊎◌, inl, inr, ℕ, zero, suc, Bool, true, ◌==◌, List, [], ◌∷◌, refl, sym, subst, arith, ◌++◌, ◌∙◌}
 use Rattle.std.specs.Prelude.{filter, flat_map}
 use Rattle.std.specs.List.{Contains}
-use Rattle.std.proofs.lemmas.Bool.{cases_Bool, eq-eqb, eqb-true}
+use Rattle.std.proofs.lemmas.Bool.{cases_Bool, eq-eqb, eqb-true, or_left, or_right}
 use Rattle.std.proofs.lemmas.List.Elements.{Contains-append_left, Contains-append_right, Contains-append_cases}
 use Rattle.o2_model.specs.Words.{among}
 use Rattle.o2_laws.proofs.Found.{contains_first, contains_later, found, passing}
+use Rattle.std.proofs.lemmas.List.Folds.{list_any-append}
 
 -- it is the first, or one of the others
 pub contains_cases : {A : Type 0} (y x : A) (ys : List A) → Contains (y ∷ ys) x → (y ≡ x) ⊎ Contains ys x
@@ -57,3 +58,12 @@ pub among_contains : (ns : List ℕ) (n : ℕ) → among ns n ≡ true → Conta
 among_contains ns n h =
     let at = passing (λ m. n == m) ns h in
     subst (Contains ns) (sym (eqb-true n at.item at.passes)) at.inside
+
+pub among_one : (b d : ℕ) → among (d ∷ []) b ≡ true → (b == d) ≡ true
+among_one b d h = grind arith
+
+pub among_left : (xs ys : List ℕ) (b : ℕ) → among xs b ≡ true → among (xs ++ ys) b ≡ true
+among_left xs ys b h = list_any-append (λ m. b == m) xs ys ∙ or_left _ _ h
+
+pub among_right : (xs ys : List ℕ) (b : ℕ) → among ys b ≡ true → among (xs ++ ys) b ≡ true
+among_right xs ys b h = list_any-append (λ m. b == m) xs ys ∙ or_right _ _ h

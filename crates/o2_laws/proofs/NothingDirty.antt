@@ -1,9 +1,9 @@
 -- Where nothing is dirty there is nothing to replay.
-use Rattle.std.proofs.Common.{◌≡◌, inl, inr, ℕ, Bool, true, false, not, List, [], ◌∷◌, ◌++◌, refl, sym, ◌∙◌, subst, Option, Some, None}
+use Rattle.std.proofs.Common.{◌≡◌, inl, inr, ℕ, true, false, not, List, [], ◌∷◌, ◌++◌, refl, sym, ◌∙◌, subst, Option, Some, None}
 use Rattle.std.specs.Prelude.{filter, flat_map}
 use Rattle.std.specs.List.{AllByRecursion}
 use Rattle.std.specs.Option.{option_map_or}
-use Rattle.std.proofs.lemmas.Bool.{cases_Bool, false≢true}
+use Rattle.std.proofs.lemmas.Bool.{cases_Bool, not-true}
 use Rattle.o2_disk.specs.Image.{Image}
 use Rattle.o2_model.specs.declared.check.Check.TheVariants as check
 use Rattle.o2_model.specs.Volume.{Volume, opened}
@@ -17,12 +17,8 @@ use Rattle.o2_laws.proofs.Failing.{none_fails}
 use Rattle.o2_laws.proofs.NothingFails.{no_check_fails}
 
 -- ---- clean journals
-not_true : (b : Bool) → not b ≡ true → b ≡ false
-not_true true h = absurd (false≢true h)
-not_true false h = refl
-
 -- a journal that a slot's name names is clean
-clean_journal : (v : Volume) (b : ℕ) → is_dirty v b ≡ false → option_map_or (is_dirty v) (journal_if v b) false ≡ false
+pub clean_journal : (v : Volume) (b : ℕ) → is_dirty v b ≡ false → option_map_or (is_dirty v) (journal_if v b) false ≡ false
 clean_journal v b clean = elim (cases_Bool (is_journal v b)) [
   | inl named ↦ rw named clean
   | inr other ↦ rw other refl
@@ -43,7 +39,7 @@ AreClean v bs = AllByRecursion (λ b. not (is_dirty v b) ≡ true) bs
 more_clean : (v : Volume) (slot : ℕ) (ss : List ℕ) (o : Option ℕ) → named_journal v slot ≡ o → AreClean v (option_map_or (λ b. b ∷ []) o [] ++ journals_of v ss) → (AreClean v (journals_of v ss) → filter (is_dirty_slot v) ss ≡ []) → filter (is_dirty_slot v) (slot ∷ ss) ≡ []
 more_clean v slot ss None is h rest = rw (clean_slot v slot None is (λ b e. cc)) (rest h)
 more_clean v slot ss (Some b) is h rest =
-    rw (clean_slot v slot (Some b) is (λ c e. let same : b ≡ c = cc in subst (λ d. is_dirty v d ≡ false) same (not_true (is_dirty v b) h.0))) (rest h.1)
+    rw (clean_slot v slot (Some b) is (λ c e. let same : b ≡ c = cc in subst (λ d. is_dirty v d ≡ false) same (not-true (is_dirty v b) h.0))) (rest h.1)
 
 clean_slots : (v : Volume) (ss : List ℕ) → AreClean v (journals_of v ss) → filter (is_dirty_slot v) ss ≡ []
 clean_slots v [] h = refl

@@ -1,5 +1,5 @@
 -- A list that strictly rises and has the same numbers is the list in order.
-use Rattle.std.proofs.Common.{◌≡◌, inl, inr, eqb, ℕ, Bool, true, false, cond, ◌||◌, ◌&&◌, ◌==◌, nat_lt, List, [], ◌∷◌, map, refl, sym, ◌∙◌, ap, subst, Option, Some, None}
+use Rattle.std.proofs.Common.{◌≡◌, inl, inr, eqb, ℕ, Bool, true, false, cond, ◌||◌, ◌&&◌, ◌==◌, nat_lt, List, [], ◌∷◌, map, refl, sym, ◌∙◌, ap, subst, Some, None}
 use Rattle.std.specs.List.{list_any, AllByRecursion, dedup, dedup_from}
 use Rattle.std.specs.List.Sorted.{IsStrictlySortedBy, IsSorted, IsPermutation}
 use Rattle.std.proofs.lemmas.List.Sorted.{list_any-IsPermutation}
@@ -12,7 +12,7 @@ use Rattle.std.specs.Cmp.{nat_cmp_total}
 use lib.Dec.{T}
 use Rattle.std.proofs.lemmas.Bool.{cases_Bool, eqb-true}
 use Rattle.o2_model.specs.Orders.{with_number, rising}
-use Rattle.o2_laws.proofs.Found.{none_of_length}
+use Rattle.o2_laws.proofs.Found.{none_of_length, either}
 
 abbrev pub marks : List ℕ → List (ℕ × Unit {0})
 marks ns = map (λ n. (n, tt {0})) ns
@@ -41,17 +41,13 @@ rising-keys (n ∷ ns) =
 
 -- ---- what they are
 
-either : (a b : Bool) (o : Option (Unit {0})) → o ≡ cond b (Some (tt {0})) None → cond a (Some (tt {0})) o ≡ cond (a || b) (Some (tt {0})) None
-either true b o h = refl
-either false b o h = h
-
 keys-marks : (ns : List ℕ) → map (λ e. e.0) (marks ns) ≡ ns
 keys-marks [] = refl
 keys-marks (n ∷ ns) = ap (λ x. n ∷ x) (keys-marks ns)
 
 find-marks : (ns : List ℕ) (q : ℕ) → finite.find nat_cmp q (marks ns) ≡ cond (list_any (eq_by_cmp nat_cmp q) ns) (Some (tt {0})) None
 find-marks [] q = refl
-find-marks (n ∷ ns) q = either (eq_by_cmp nat_cmp q n) (list_any (eq_by_cmp nat_cmp q) ns) _ (find-marks ns q)
+find-marks (n ∷ ns) q = either (eq_by_cmp nat_cmp q n) (list_any (eq_by_cmp nat_cmp q) ns) (tt {0}) _ (find-marks ns q)
 
 below : (n : ℕ) (ns : List ℕ) → AllByRecursion (λ m. nat_cmp n m ≡ Less) ns → T (below_all nat_cmp n (marks ns))
 below n [] h = tt

@@ -86,7 +86,7 @@ extents_well v b = elim (cases_Bool (has_list v b)) [
 ]
 
 -- ---- an inode has one list
-no_list : (v : Volume) (b : ℕ) → has_list v b ≡ false → extents v b ≡ nothing_read
+pub no_list : (v : Volume) (b : ℕ) → has_list v b ≡ false → extents v b ≡ nothing_read
 unfolding extents
 no_list v b none = rw none refl
 

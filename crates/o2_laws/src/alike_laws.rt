@@ -4,7 +4,7 @@ ghost use Rattle.o2_disk.specs.Image.{Image, block_at};
 ghost use Rattle.o2_model.specs.declared.check.Check.{Check};
 ghost use Rattle.o2_model.specs.Volume.{Volume, over, block_size, opened};
 ghost use Rattle.o2_model.specs.AfterReplay.{contents_after_replay, geometry_after_replay, volume_contents, geometry_of};
-ghost use Rattle.o2_laws.specs.Agrees.{AgreesOnOwned};
+ghost use Rattle.o2_laws.specs.Agrees.{AgreesOnOwned, AgreesBesideJournals, HasSoundJournalSupers};
 ghost use Rattle.o2_model.specs.Claims.{claims_of};
 ghost use Rattle.o2_model.specs.Consistent.{IsConsistent};
 ghost use Rattle.o2_model.specs.Dirty.{dirty_slots};
@@ -45,5 +45,19 @@ pub fn images_alike_are_consistent()
     ensures contents { (I X : Image) (h : IsConsistent I) → length X ≡ length I → AgreesOnOwned h.volume (block_at (block_size h.volume) X)
         → contents_after_replay X ≡ contents_after_replay I }
     ensures geometry { (I X : Image) (h : IsConsistent I) → length X ≡ length I → AgreesOnOwned h.volume (block_at (block_size h.volume) X)
+        → geometry_after_replay X ≡ geometry_after_replay I }
+{}
+
+/// A law: so is an image that agrees with a consistent one on its owned blocks but the first ones of journals, where each journal begins
+/// with a sound superblock of known features. Whatever stands there, it has the same volume over its own blocks, with the same contents,
+/// size, label and journals. What a commit writes into a journal's superblock is of that kind.
+pub fn images_alike_beside_journals_are_consistent()
+    ensures opened { (I X : Image) (h : IsConsistent I) → length X ≡ length I → AgreesBesideJournals h.volume (block_at (block_size h.volume) X)
+        → opened X ≡ Some (over h.volume (block_at (block_size h.volume) X)) }
+    ensures consistent { (I X : Image) (h : IsConsistent I) → length X ≡ length I → AgreesBesideJournals h.volume (block_at (block_size h.volume) X)
+        → HasSoundJournalSupers h.volume (block_at (block_size h.volume) X) → IsConsistent X }
+    ensures contents { (I X : Image) (h : IsConsistent I) → length X ≡ length I → AgreesBesideJournals h.volume (block_at (block_size h.volume) X)
+        → contents_after_replay X ≡ contents_after_replay I }
+    ensures geometry { (I X : Image) (h : IsConsistent I) → length X ≡ length I → AgreesBesideJournals h.volume (block_at (block_size h.volume) X)
         → geometry_after_replay X ≡ geometry_after_replay I }
 {}

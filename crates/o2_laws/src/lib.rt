@@ -15,8 +15,8 @@ mod superblock_laws;
 mod walk_laws;
 
 pub use alike_laws::{
-    images_alike_are_consistent, owned_blocks_tell_checks, owned_blocks_tell_claims,
-    owned_blocks_tell_contents,
+    images_alike_are_consistent, images_alike_beside_journals_are_consistent,
+    owned_blocks_tell_checks, owned_blocks_tell_claims, owned_blocks_tell_contents,
 };
 pub use check_laws::each_check_holds;
 pub use entry_laws::entries_fill_their_bytes;

@@ -2,18 +2,15 @@
 use Rattle.std.proofs.Common.{◌≡◌, [], refl, sym, subst, None}
 use Rattle.std.proofs.lemmas.Bool.{false≢true}
 use Rattle.o2_disk.specs.Image.{Image}
-use Rattle.o2_model.specs.declared.check.Check.TheVariants as check
 use Rattle.o2_model.specs.Volume.{Volume}
 use Rattle.o2_model.specs.Anchors.{log_fault}
-use Rattle.o2_model.specs.Checks.Super.{super_faults}
-use Rattle.o2_model.specs.Checks.Sysdir.{sysdir_faults}
 use Rattle.o2_model.specs.Consistent.{IsConsistent}
 use Rattle.o2_model.specs.Dirty.{dirty_slots, journal_fault}
-use Rattle.o2_model.specs.Failing.{faults, failing}
 use Rattle.o2_model.specs.Replay.{AreAnchorsApart, IsReplayable, IsReplayStable, IsRecoverable}
-use Rattle.o2_laws.proofs.NothingFails.{no_check_fails}
 use Rattle.o2_laws.proofs.NothingDirty.{consistent_clean, consistent_replayed}
 use Rattle.o2_replay_laws.proofs.Replays.{no_variant}
+use Rattle.o2_laws.proofs.Held.HeldImages.{super_holds}
+use Rattle.o2_laws.proofs.Held.OwnInodes.{sysdir_holds}
 
 -- ---- where nothing is dirty
 no_journal_at_fault : (v : Volume) → dirty_slots v ≡ [] → journal_fault v ≡ None
@@ -27,14 +24,6 @@ no_log_at_fault v none = rw none refl
 anchors_free : (v : Volume) → dirty_slots v ≡ [] → AreAnchorsApart v
 anchors_free v none s dirty = absurd (false≢true (rw none at dirty))
 
-sound_super_of : (v : Volume) → failing v ≡ [] → super_faults v ≡ []
-unfolding faults
-sound_super_of v none = no_check_fails v none check.Super
-
-sound_sysdir_of : (v : Volume) → failing v ≡ [] → sysdir_faults v ≡ []
-unfolding faults
-sound_sysdir_of v none = no_check_fails v none check.Sysdir
-
 -- ---- images
 consistent_replayable : (I : Image) (h : IsConsistent I) → IsReplayable h.volume I
 consistent_replayable I h =
@@ -43,8 +32,8 @@ consistent_replayable I h =
       volume = h.volume;
       is_opened = h.is_opened;
       supported = h.supported_features;
-      sound_super = sound_super_of h.volume h.none_fails;
-      sound_sysdir = sound_sysdir_of h.volume h.none_fails;
+      sound_super = super_holds h.volume h.none_fails;
+      sound_sysdir = sysdir_holds h.volume h.none_fails;
       no_journal_fault = no_journal_at_fault h.volume clean;
       no_log_fault = no_log_at_fault h.volume clean;
       anchors_apart = anchors_free h.volume clean;

@@ -1,4 +1,4 @@
--- Where nothing fails, each index claims its clusters, and its leaves are owned.
+-- Where nothing fails, each index claims its clusters, and its leaves are held.
 use Rattle.std.proofs.Common.{◌≡◌, inl, inr, ⊎_elim, ℕ, zero, suc, ◌+◌, ◌<◌, ◌≤◌, Bool, true, List, [], ◌∷◌, ◌++◌, refl, sym, ◌∙◌, subst, arith}
 use Rattle.std.specs.Prelude.{filter, fold, nat_lt}
 use Rattle.std.specs.List.{list_any, Contains, range_with_len}
@@ -12,10 +12,11 @@ use Rattle.o2_model.specs.Groups.{inodes_of}
 use Rattle.o2_model.specs.Indexes.{is_indexed, indexed_directories, index_extents, index_clusters, index_leaves, is_sound_index}
 use Rattle.o2_model.specs.Claims.{claims_by, claimed_clusters, structure_claims, inode_claims, with_index, claims_before_index, claims_with_indexes}
 use Rattle.o2_model.specs.Failing.{failing}
-use Rattle.o2_model.specs.Owned.{is_owned}
+use Rattle.o2_laws.proofs.Held.HeldBlocks.{is_held}
 use Rattle.o2_laws.proofs.Members.{contains_cases}
-use Rattle.o2_laws.proofs.Owned.OwnedBlocks.{Lasts, lasts_if, lasts_fold, indexes_last, owns, by_claim}
-use Rattle.o2_laws.proofs.Owned.DataOwned.{under_records}
+use Rattle.o2_laws.proofs.Held.LastingClaims.{Lasts, lasts_if, lasts_fold, indexes_last}
+use Rattle.o2_laws.proofs.Held.HeldBlocks.{holds, by_claim}
+use Rattle.o2_laws.proofs.Held.DataHeld.{under_records}
 use Rattle.o2_laws.proofs.Kept.IndexesHold.{index_holds, index_well}
 
 -- ---- rising numbers
@@ -90,14 +91,14 @@ index_claims P lasts v d adds none is =
     index_among P lasts v d 0 adds (structure_claims v ++ inode_claims v) (indexed_directories v) (indexed_rise v) is (index_holds v d none is)
 
 -- ---- its leaves
-leaf_claimed : (v : Volume) (d b : ℕ) → among (index_leaves v d) b ≡ true → list_any (owns v b) (claims_by (Index d) (index_clusters v d)) ≡ true
+leaf_claimed : (v : Volume) (d b : ℕ) → among (index_leaves v d) b ≡ true → list_any (holds v b) (claims_by (Index d) (index_clusters v d)) ≡ true
 unfolding index_clusters
 leaf_claimed v d b h = by_claim v b (Index d) (index_clusters v d) refl (under_records v b (index_extents v d).leaves (index_well v d).leaves h)
 
-pub index_leaf_owned : (v : Volume) (d b : ℕ) → failing v ≡ [] → Contains (indexed_directories v) d → among (index_leaves v d) b ≡ true → is_owned v b ≡ true
-unfolding is_owned
-index_leaf_owned v d b none is h =
-    let P : List Claim → Type 0 = λ ks. list_any (owns v b) ks ≡ true in
-    let lasts : Lasts P = λ ks more k. list_any-append (owns v b) ks more ∙ or_left _ _ k in
+pub index_leaf_held : (v : Volume) (d b : ℕ) → failing v ≡ [] → Contains (indexed_directories v) d → among (index_leaves v d) b ≡ true → is_held v b ≡ true
+unfolding is_held
+index_leaf_held v d b none is h =
+    let P : List Claim → Type 0 = λ ks. list_any (holds v b) ks ≡ true in
+    let lasts : Lasts P = λ ks more k. list_any-append (holds v b) ks more ∙ or_left _ _ k in
     indexes_last P lasts v
-    (index_claims P lasts v d (λ earlier. list_any-append (owns v b) earlier (claims_by (Index d) (index_clusters v d)) ∙ or_right _ _ (leaf_claimed v d b h)) none is)
+    (index_claims P lasts v d (λ earlier. list_any-append (holds v b) earlier (claims_by (Index d) (index_clusters v d)) ∙ or_right _ _ (leaf_claimed v d b h)) none is)

@@ -1,8 +1,8 @@
--- Where nothing fails, each index holds: its root, its extent blocks and its leaves are owned.
-use Rattle.std.proofs.Common.{◌≡◌, inl, inr, ℕ, Bool, true, false, ◌&&◌, not, List, [], ◌∷◌, refl}
+-- Where nothing fails, each index holds: its root, its extent blocks and its leaves are held.
+use Rattle.std.proofs.Common.{◌≡◌, inl, inr, ℕ, true, false, ◌&&◌, not, List, [], refl, arith}
 use Rattle.std.specs.List.{Contains, list_all}
 use Rattle.std.specs.Option.{option_map_or}
-use Rattle.std.proofs.lemmas.Bool.{cases_Bool, and_parts, and_right, not_from_true, false≢true}
+use Rattle.std.proofs.lemmas.Bool.{cases_Bool, and_parts, and_right, not_from_true}
 use Rattle.o2_model.specs.declared.check.Check.TheVariants as check
 use Rattle.o2_model.specs.Words.{among}
 use Rattle.o2_model.specs.Orders.{is_none_of}
@@ -12,18 +12,18 @@ use Rattle.o2_model.specs.Inodes.{is_directory}
 use Rattle.o2_model.specs.Allocators.{are_metadata}
 use Rattle.o2_model.specs.Groups.{is_inode, inodes_of}
 use Rattle.o2_model.specs.Metadata.{Origin, extent_block_origin, has_slot_and_bit, group_with_bit, is_on_metadata_bit}
-use Rattle.o2_model.specs.Indexes.{is_indexed, indexed_directories, index_root, is_index_root, is_inline_index, index_extents, index_leaves, is_sound_index_leaf, is_own_block, index_root_origin, has_sound_index_root, has_sound_index_lists, has_own_index_clusters, has_trailers, has_sound_index_counts, is_found_in_index, is_sound_index}
+use Rattle.o2_model.specs.Indexes.{is_indexed, indexed_directories, index_root, is_index_root, is_inline_index, index_extents, index_leaves, is_sound_index_leaf, is_own_block, index_root_origin, has_sound_index_root, has_sound_index_lists, is_sound_index}
 use Rattle.o2_model.specs.Claims.{claims_before_index, claimed_clusters}
 use Rattle.o2_model.specs.Checks.Dx.{holds_index, dx_faults}
 use Rattle.o2_model.specs.Failing.{faults, failing}
-use Rattle.o2_model.specs.Owned.{is_owned}
+use Rattle.o2_laws.proofs.Held.HeldBlocks.{is_held}
 use Rattle.o2_laws.proofs.NothingFails.{no_check_fails}
 use Rattle.o2_laws.proofs.Failing.{none_fails}
-use Rattle.o2_laws.proofs.Found.{each_of, passes_of_all}
+use Rattle.o2_laws.proofs.Found.{each_of, passes_of_all, none_of}
 use Rattle.o2_laws.proofs.Members.{contains_filter, among_contains}
-use Rattle.o2_laws.proofs.Owned.BitsOwned.{when_some, metadata_bit_owned}
+use Rattle.o2_laws.proofs.Held.BitsHeld.{when_some, metadata_bit_held}
 use Rattle.o2_laws.proofs.WellRead.{IsWellRead, well_none, list_well}
-use Rattle.o2_laws.proofs.Owned.OwnedTells.{listed_is_inode}
+use Rattle.o2_laws.proofs.Held.HeldTells.{listed_is_inode}
 
 -- ---- a directory with an index
 pub record IsIndexed (v : Volume) (d : ℕ) : Type 0 where
@@ -51,33 +51,24 @@ record IsWellFormed (v : Volume) (d : ℕ) : Type 0 where
   root : has_sound_index_root v d ≡ true
   lists : has_sound_index_lists v d ≡ true
 
-first_two : (a b c e f g : Bool) → (a && b && c && e && f && g) ≡ true → (a ≡ true) × (b ≡ true)
-first_two a b c e f g h =
-    let to_f = (and_parts (a && b && c && e && f) g h).0 in
-    let to_e = (and_parts (a && b && c && e) f to_f).0 in
-    let to_c = (and_parts (a && b && c) e to_e).0 in
-    and_parts a b (and_parts (a && b) c to_c).0
-
 well_formed : (v : Volume) (claimed : List ℕ) (d : ℕ) → is_sound_index v claimed d ≡ true → IsWellFormed v d
 unfolding is_sound_index
-well_formed v claimed d h =
-    let both = first_two (has_sound_index_root v d) (has_sound_index_lists v d) (has_own_index_clusters v claimed d) (has_trailers v d) (has_sound_index_counts v d) (is_found_in_index v d) h in
-    record { root = both.0; lists = both.1 }
+well_formed v claimed d h = record { root = grind arith; lists = grind arith }
 
 index_formed : (v : Volume) (d : ℕ) → failing v ≡ [] → Contains (indexed_directories v) d → IsWellFormed v d
 index_formed v d none is = well_formed v (claimed_clusters (claims_before_index v d)) d (index_holds v d none is)
 
 -- ---- its own blocks
-own_block_owned : (v : Volume) (o : Origin) (b : ℕ) → is_own_block v o b ≡ true → is_owned v b ≡ true
+own_block_held : (v : Volume) (o : Origin) (b : ℕ) → is_own_block v o b ≡ true → is_held v b ≡ true
 unfolding is_own_block
-own_block_owned v o b h =
-    metadata_bit_owned v b
+own_block_held v o b h =
+    metadata_bit_held v b
     (when_some (is_on_metadata_bit v b ≡ true) (has_slot_and_bit v o b) (group_with_bit v are_metadata b) (λ g is. rw is refl)
     (and_parts (option_map_or (has_slot_and_bit v o b) (group_with_bit v are_metadata b) false) _ h).0)
 
-pub index_root_owned : (v : Volume) (d : ℕ) → failing v ≡ [] → Contains (indexed_directories v) d → is_owned v (index_root v d) ≡ true
-index_root_owned v d none is =
-    own_block_owned v (index_root_origin v (index_root v d)) (index_root v d) (and_parts (is_index_root v d (index_root v d)) _ (index_formed v d none is).root).1
+pub index_root_held : (v : Volume) (d : ℕ) → failing v ≡ [] → Contains (indexed_directories v) d → is_held v (index_root v d) ≡ true
+index_root_held v d none is =
+    own_block_held v (index_root_origin v (index_root v d)) (index_root v d) (and_parts (is_index_root v d (index_root v d)) _ (index_formed v d none is).root).1
 
 -- ---- its list
 -- what is read of it, where there is one
@@ -91,10 +82,6 @@ index_well v d = elim (cases_Bool (is_index_root v d (index_root v d) && not (is
   | inl has ↦ rw has (list_well v 3 (index_root v d) 0xc0 _)
   | inr none ↦ rw none (well_none v)
 ]
-
-none_of : {A : Type 0} (xs : List A) → is_none_of xs ≡ true → xs ≡ []
-none_of [] h = refl
-none_of (x ∷ xs) h = absurd (false≢true h)
 
 record IsWellListed (v : Volume) (d : ℕ) : Type 0 where
   faults : (index_extents v d).faults ≡ []
@@ -115,8 +102,8 @@ lists_parts v d h = elim (cases_Bool (is_inline_index v (index_root v d))) [
 pub index_reads : (v : Volume) (d : ℕ) → failing v ≡ [] → Contains (indexed_directories v) d → (index_extents v d).faults ≡ []
 index_reads v d none is = (lists_parts v d (index_formed v d none is).lists).faults
 
-pub index_block_owned : (v : Volume) (d b : ℕ) → failing v ≡ [] → Contains (indexed_directories v) d → among (index_extents v d).blocks b ≡ true → is_owned v b ≡ true
-index_block_owned v d b none is h =
-    own_block_owned v (extent_block_origin v b) b
+pub index_block_held : (v : Volume) (d b : ℕ) → failing v ≡ [] → Contains (indexed_directories v) d → among (index_extents v d).blocks b ≡ true → is_held v b ≡ true
+index_block_held v d b none is h =
+    own_block_held v (extent_block_origin v b) b
     (passes_of_all (λ b. is_own_block v (extent_block_origin v b) b) (index_extents v d).blocks b (lists_parts v d (index_formed v d none is).lists).blocks
     (among_contains (index_extents v d).blocks b h))

@@ -1,4 +1,4 @@
--- Where nothing fails, the blocks of refcount trees are owned, and blocks that agree on the owned ones have the same trees.
+-- Where nothing fails, the blocks of refcount trees are held, and blocks that agree on the held ones have the same trees.
 use Rattle.std.proofs.Common.{◌≡◌, inl, inr, ⊎_elim, ℕ, true, ◌==◌, List, [], ◌∷◌, ◌++◌, map, refl, sym, ◌∙◌, ap, subst}
 use Rattle.std.specs.Prelude.{fold, flat_map}
 use Rattle.std.specs.List.{Contains}
@@ -13,16 +13,16 @@ use Rattle.o2_model.specs.Metadata.{list_blocks, refcount_blocks, metadata_block
 use Rattle.o2_model.specs.RefcountTrees.{Refcounts, refcount_roots, is_refcount_block, has_leaf_blocks, leaf_list, refcount_leaves, refcount_tree_blocks, refcount_records, refcount_end, is_sound_refcount, read_refcounts, read_refcount_block, record_blocks, refcounts}
 use Rattle.o2_model.specs.Checks.RefTree.{is_sound_root_block, ref_tree_faults_of, ref_tree_faults}
 use Rattle.o2_model.specs.Failing.{faults, failing}
-use Rattle.o2_model.specs.Owned.{is_owned}
-use Rattle.o2_laws.specs.Agrees.{AgreesOnOwned}
+use Rattle.o2_laws.proofs.Held.HeldBlocks.{is_held}
+use Rattle.o2_laws.proofs.Held.HeldBlocks.{AgreesOnHeld}
 use Rattle.o2_laws.proofs.NothingFails.{no_check_fails}
-use Rattle.o2_laws.proofs.Found.{append_nothing, each_of, contains_first, contains_later}
+use Rattle.o2_laws.proofs.Found.{append_nothing, each_of, contains_first, contains_later, none_of}
 use Rattle.o2_laws.proofs.Members.{contains_one, contains_flat, contains_among, among_contains}
 use Rattle.o2_laws.proofs.Agreeing.{fold_agree}
-use Rattle.o2_laws.proofs.Owned.BitsOwned.{metadata_owned}
-use Rattle.o2_laws.proofs.Owned.SystemOwned.{holds_unless}
-use Rattle.o2_laws.proofs.Owned.OwnedTells.{each_nothing, metadata_holds}
+use Rattle.o2_laws.proofs.Held.BitsHeld.{metadata_held}
+use Rattle.o2_laws.proofs.Held.HeldTells.{each_nothing, metadata_holds}
 use Rattle.o2_laws.proofs.Kept.BlockNames.{refcount_block_same, has_leaf_blocks_same, leaf_list_same, leaf_list_sees_blocks}
+use Rattle.o2_laws.proofs.Failing.{holds_unless}
 
 -- ---- a tree without fault
 trees_hold : (v : Volume) → failing v ≡ [] → ref_tree_faults v ≡ []
@@ -38,23 +38,19 @@ sound_root : (v : Volume) (root : ℕ) → failing v ≡ [] → Contains (refcou
 sound_root v root none is =
     holds_unless root (is_sound_root_block v root) (append_nothing (fails_unless root (is_sound_root_block v root)) (refcounts v root).faults (tree_holds v root none is)).0
 
-none_listed : (bs : List ℕ) → is_none_of bs ≡ true → bs ≡ []
-none_listed [] h = refl
-none_listed (b ∷ bs) h = cc
-
 pub no_leaf_list_fault : (v : Volume) (root : ℕ) → failing v ≡ [] → Contains (refcount_roots v) root → (leaf_list v root).faults ≡ []
 no_leaf_list_fault v root none is =
-    none_listed (leaf_list v root).faults (and_parts (is_refcount_block v root) (is_none_of (leaf_list v root).faults) (sound_root v root none is)).1
+    none_of (leaf_list v root).faults (and_parts (is_refcount_block v root) (is_none_of (leaf_list v root).faults) (sound_root v root none is)).1
 
--- ---- its blocks are owned
+-- ---- its blocks are held
 pub tree_block_listed : (v : Volume) (root b : ℕ) → Contains (refcount_roots v) root → Contains (refcount_tree_blocks v root) b → Contains (metadata_blocks v) b
 unfolding metadata_blocks refcount_blocks
 tree_block_listed v root b is inside =
     Contains-append_right (list_blocks v) (refcount_blocks v) b (contains_flat (refcount_tree_blocks v) (refcount_roots v) root b is inside)
 
-pub tree_block_owned : (v : Volume) (root b : ℕ) → failing v ≡ [] → Contains (refcount_roots v) root → Contains (refcount_tree_blocks v root) b → is_owned v b ≡ true
-tree_block_owned v root b none is inside =
-    metadata_owned v b (metadata_holds v none) (contains_among (metadata_blocks v) b (tree_block_listed v root b is inside))
+pub tree_block_held : (v : Volume) (root b : ℕ) → failing v ≡ [] → Contains (refcount_roots v) root → Contains (refcount_tree_blocks v root) b → is_held v b ≡ true
+tree_block_held v root b none is inside =
+    metadata_held v b (metadata_holds v none) (contains_among (metadata_blocks v) b (tree_block_listed v root b is inside))
 
 root_of_tree : (v : Volume) (root : ℕ) → Contains (refcount_tree_blocks v root) root
 unfolding refcount_tree_blocks
@@ -68,38 +64,38 @@ leaf_of_tree : (v : Volume) (root b : ℕ) → Contains (refcount_leaves v root)
 unfolding refcount_tree_blocks
 leaf_of_tree v root b is = contains_later root b _ (Contains-append_right (leaf_list v root).blocks (refcount_leaves v root) b is)
 
-pub root_owned : (v : Volume) (root : ℕ) → failing v ≡ [] → Contains (refcount_roots v) root → is_owned v root ≡ true
-root_owned v root none is = tree_block_owned v root root none is (root_of_tree v root)
+pub root_held : (v : Volume) (root : ℕ) → failing v ≡ [] → Contains (refcount_roots v) root → is_held v root ≡ true
+root_held v root none is = tree_block_held v root root none is (root_of_tree v root)
 
-pub list_block_owned : (v : Volume) (root b : ℕ) → failing v ≡ [] → Contains (refcount_roots v) root → Contains (leaf_list v root).blocks b → is_owned v b ≡ true
-list_block_owned v root b none is inside = tree_block_owned v root b none is (extent_block_of_tree v root b inside)
+pub list_block_held : (v : Volume) (root b : ℕ) → failing v ≡ [] → Contains (refcount_roots v) root → Contains (leaf_list v root).blocks b → is_held v b ≡ true
+list_block_held v root b none is inside = tree_block_held v root b none is (extent_block_of_tree v root b inside)
 
-pub leaf_owned : (v : Volume) (root b : ℕ) → failing v ≡ [] → Contains (refcount_roots v) root → Contains (refcount_leaves v root) b → is_owned v b ≡ true
-leaf_owned v root b none is inside = tree_block_owned v root b none is (leaf_of_tree v root b inside)
+pub leaf_held : (v : Volume) (root b : ℕ) → failing v ≡ [] → Contains (refcount_roots v) root → Contains (refcount_leaves v root) b → is_held v b ≡ true
+leaf_held v root b none is inside = tree_block_held v root b none is (leaf_of_tree v root b inside)
 
-looked_at_owned : (v : Volume) (root b : ℕ) → failing v ≡ [] → Contains (refcount_roots v) root → among (leaf_list v root).seen b ≡ true → is_owned v b ≡ true
-looked_at_owned v root b none is h =
-    list_block_owned v root b none is
+looked_at_held : (v : Volume) (root b : ℕ) → failing v ≡ [] → Contains (refcount_roots v) root → among (leaf_list v root).seen b ≡ true → is_held v b ≡ true
+looked_at_held v root b none is h =
+    list_block_held v root b none is
     (subst (λ bs. Contains bs b) (leaf_list_sees_blocks v root (no_leaf_list_fault v root none is)) (among_contains (leaf_list v root).seen b h))
 
 -- ---- the list of leaves
-pub root_same : (v : Volume) (at : ℕ → List ℕ) (root : ℕ) → failing v ≡ [] → AgreesOnOwned v at → Contains (refcount_roots v) root → at root ≡ v.at root
-root_same v at root none agrees is = agrees.same root (root_owned v root none is)
+pub root_same : (v : Volume) (at : ℕ → List ℕ) (root : ℕ) → failing v ≡ [] → AgreesOnHeld v at → Contains (refcount_roots v) root → at root ≡ v.at root
+root_same v at root none agrees is = agrees.same root (root_held v root none is)
 
-pub owned_tell_leaf_list : (v : Volume) (at : ℕ → List ℕ) (root : ℕ) → failing v ≡ [] → AgreesOnOwned v at → Contains (refcount_roots v) root → leaf_list (over v at) root ≡ leaf_list v root
-owned_tell_leaf_list v at root none agrees is =
+pub held_tell_leaf_list : (v : Volume) (at : ℕ → List ℕ) (root : ℕ) → failing v ≡ [] → AgreesOnHeld v at → Contains (refcount_roots v) root → leaf_list (over v at) root ≡ leaf_list v root
+held_tell_leaf_list v at root none agrees is =
     leaf_list_same v at root (record {
       same = λ b h. ⊎_elim
           (λ here. subst (λ x. at x ≡ v.at x) (sym (eqb-true b root here)) (root_same v at root none agrees is))
-          (λ there. agrees.same b (looked_at_owned v root b none is there))
+          (λ there. agrees.same b (looked_at_held v root b none is there))
           (or_cases (b == root) (among (leaf_list v root).seen b) h);
     }) (no_leaf_list_fault v root none is)
 
-pub owned_tell_tree_blocks : (v : Volume) (at : ℕ → List ℕ) (root : ℕ) → failing v ≡ [] → AgreesOnOwned v at → Contains (refcount_roots v) root
+pub held_tell_tree_blocks : (v : Volume) (at : ℕ → List ℕ) (root : ℕ) → failing v ≡ [] → AgreesOnHeld v at → Contains (refcount_roots v) root
     → refcount_tree_blocks (over v at) root ≡ refcount_tree_blocks v root
 unfolding refcount_tree_blocks
-owned_tell_tree_blocks v at root none agrees is =
-    ap (λ t. root ∷ t.blocks ++ map (λ r. r.blkno) t.leaves) (owned_tell_leaf_list v at root none agrees is)
+held_tell_tree_blocks v at root none agrees is =
+    ap (λ t. root ∷ t.blocks ++ map (λ r. r.blkno) t.leaves) (held_tell_leaf_list v at root none agrees is)
 
 -- ---- records
 sound_refcount_same : (v : Volume) (at : ℕ → List ℕ) (low : ℕ) (r : RefcountRec) → is_sound_refcount (over v at) low r ≡ is_sound_refcount v low r
@@ -121,20 +117,20 @@ read_block_same : (v : Volume) (at : ℕ → List ℕ) (t : Refcounts) (b : ℕ)
 read_block_same v at t b same =
     rw (refcount_block_same v at b same, records_same v at b same, read_refcounts_same v at b (refcount_records v b) t, same) refl
 
-record_block_owned : (v : Volume) (root b : ℕ) → failing v ≡ [] → Contains (refcount_roots v) root → Contains (record_blocks v root) b → is_owned v b ≡ true
-record_block_owned v root b none is inside = elim (cases_Bool (has_leaf_blocks v root)) [
-  | inl has ↦ leaf_owned v root b none is (rw has at inside)
-  | inr alone ↦ subst (λ x. is_owned v x ≡ true) (contains_one root b (rw alone at inside)) (root_owned v root none is)
+record_block_held : (v : Volume) (root b : ℕ) → failing v ≡ [] → Contains (refcount_roots v) root → Contains (record_blocks v root) b → is_held v b ≡ true
+record_block_held v root b none is inside = elim (cases_Bool (has_leaf_blocks v root)) [
+  | inl has ↦ leaf_held v root b none is (rw has at inside)
+  | inr alone ↦ subst (λ x. is_held v x ≡ true) (contains_one root b (rw alone at inside)) (root_held v root none is)
 ]
 
-record_blocks_same : (v : Volume) (at : ℕ → List ℕ) (root : ℕ) → failing v ≡ [] → AgreesOnOwned v at → Contains (refcount_roots v) root → record_blocks (over v at) root ≡ record_blocks v root
+record_blocks_same : (v : Volume) (at : ℕ → List ℕ) (root : ℕ) → failing v ≡ [] → AgreesOnHeld v at → Contains (refcount_roots v) root → record_blocks (over v at) root ≡ record_blocks v root
 record_blocks_same v at root none agrees is =
-    rw (has_leaf_blocks_same v at root (root_same v at root none agrees is), owned_tell_leaf_list v at root none agrees is) refl
+    rw (has_leaf_blocks_same v at root (root_same v at root none agrees is), held_tell_leaf_list v at root none agrees is) refl
 
-pub owned_tell_refcounts : (v : Volume) (at : ℕ → List ℕ) (root : ℕ) → failing v ≡ [] → AgreesOnOwned v at → Contains (refcount_roots v) root → refcounts (over v at) root ≡ refcounts v root
+pub held_tell_refcounts : (v : Volume) (at : ℕ → List ℕ) (root : ℕ) → failing v ≡ [] → AgreesOnHeld v at → Contains (refcount_roots v) root → refcounts (over v at) root ≡ refcounts v root
 unfolding refcounts
-owned_tell_refcounts v at root none agrees is =
+held_tell_refcounts v at root none agrees is =
     let start : Refcounts = record { records = []; faults = [] } in
     ap (fold (read_refcount_block (over v at)) start) (record_blocks_same v at root none agrees is)
     ∙ fold_agree (read_refcount_block (over v at)) (read_refcount_block v) start (record_blocks v root)
-    (λ t b inside. read_block_same v at t b (agrees.same b (record_block_owned v root b none is inside)))
+    (λ t b inside. read_block_same v at t b (agrees.same b (record_block_held v root b none is inside)))

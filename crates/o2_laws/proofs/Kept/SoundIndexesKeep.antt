@@ -1,4 +1,4 @@
--- Where nothing fails, an index holds over blocks that agree on the owned ones just as it does on the volume.
+-- Where nothing fails, an index holds over blocks that agree on the held ones just as it does on the volume.
 use Rattle.std.proofs.Common.{◌≡◌, ℕ, Bool, ◌&&◌, ◌==◌, List, [], refl, ◌∙◌, ap}
 use Rattle.std.specs.Prelude.{filter}
 use Rattle.std.specs.List.{Contains, list_all}
@@ -9,22 +9,22 @@ use Rattle.o2_model.specs.Allocators.{are_metadata}
 use Rattle.o2_model.specs.Indexes.{indexed_directories, index_root, index_extents, index_leaves, is_sound_index_leaf, is_own_block, has_sound_index_root, has_sound_index_lists, has_own_index_clusters, dir_block_bytes, ends_in_trailer, has_trailers, has_sound_index_counts, is_found_by_hash, is_found_in_index, is_sound_index}
 use Rattle.o2_model.specs.NameHash.{is_ascii_name}
 use Rattle.o2_model.specs.Failing.{failing}
-use Rattle.o2_laws.specs.Agrees.{AgreesOnOwned}
+use Rattle.o2_laws.proofs.Held.HeldBlocks.{AgreesOnHeld}
 use Rattle.o2_laws.proofs.Found.{found, any_map}
 use Rattle.o2_laws.proofs.Members.{contains_among}
 use Rattle.std.proofs.lemmas.Bool.{eq-eqb}
 use Rattle.o2_laws.proofs.Agreeing.{all_agree}
-use Rattle.o2_laws.proofs.Kept.IndexesKeep.{SameIndex, same_index, root_same, leaf_same, index_clusters_same, index_entries_same, owned_tell_all_index_blocks}
-use Rattle.o2_laws.proofs.Kept.MetadataKeeps.{owned_tell_group_with_bit, owned_tell_metadata}
+use Rattle.o2_laws.proofs.Kept.IndexesKeep.{SameIndex, same_index, root_same, leaf_same, index_clusters_same, index_entries_same, held_tell_all_index_blocks}
+use Rattle.o2_laws.proofs.Kept.MetadataKeeps.{held_tell_group_with_bit, held_tell_metadata}
 
 -- the blocks that nothing else uses
 abbrev SameOwnBlocks : Volume → (ℕ → List ℕ) → Type 0
 SameOwnBlocks v at = (o : Origin) (b : ℕ) → is_own_block (over v at) o b ≡ is_own_block v o b
 
-own_blocks_same : (v : Volume) (at : ℕ → List ℕ) → failing v ≡ [] → AgreesOnOwned v at → SameOwnBlocks v at
+own_blocks_same : (v : Volume) (at : ℕ → List ℕ) → failing v ≡ [] → AgreesOnHeld v at → SameOwnBlocks v at
 unfolding is_own_block
 own_blocks_same v at none agrees o b =
-    rw (owned_tell_group_with_bit v at are_metadata b none agrees, owned_tell_metadata v at none agrees, owned_tell_all_index_blocks v at none agrees) refl
+    rw (held_tell_group_with_bit v at are_metadata b none agrees, held_tell_metadata v at none agrees, held_tell_all_index_blocks v at none agrees) refl
 
 -- ---- the parts of what an index is asked
 root_holds : (v : Volume) (at : ℕ → List ℕ) (d : ℕ) → SameOwnBlocks v at → SameIndex v at d → has_sound_index_root (over v at) d ≡ has_sound_index_root v d
@@ -65,10 +65,10 @@ six_same : (a b c d e f p q r s t u : Bool) → a ≡ p → b ≡ q → c ≡ r 
 six_same a b c d e f p q r s t u same1 same2 same3 same4 same5 same6 = cc
 
 -- for any claims before it
-pub owned_tell_sound_index : (v : Volume) (at : ℕ → List ℕ) (claimed : List ℕ) (d : ℕ) → failing v ≡ [] → AgreesOnOwned v at → Contains (indexed_directories v) d
+pub held_tell_sound_index : (v : Volume) (at : ℕ → List ℕ) (claimed : List ℕ) (d : ℕ) → failing v ≡ [] → AgreesOnHeld v at → Contains (indexed_directories v) d
     → is_sound_index (over v at) claimed d ≡ is_sound_index v claimed d
 unfolding is_sound_index
-owned_tell_sound_index v at claimed d none agrees is =
+held_tell_sound_index v at claimed d none agrees is =
     let own : SameOwnBlocks v at = own_blocks_same v at none agrees in
     let same = same_index v at d none agrees is in
     six_same _ _ _ _ _ _ _ _ _ _ _ _

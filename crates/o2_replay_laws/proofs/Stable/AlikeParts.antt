@@ -17,9 +17,10 @@ use Rattle.o2_model.specs.Logs.{log_blocks, log_in}
 use Rattle.o2_model.specs.Anchors.{directory_anchors, journal_anchors}
 use Rattle.o2_laws.proofs.WellRead.{extents_well, extent_blocks_are}
 use Rattle.o2_laws.proofs.Agreeing.{map_agree, option_agree}
-use Rattle.o2_replay_laws.proofs.Stable.SameDirectory.{looked_at_is_anchor, directory_extents_same, directory_blocks_same, among_left, among_right}
+use Rattle.o2_replay_laws.proofs.Stable.SameDirectory.{looked_at_is_anchor, directory_extents_same, directory_blocks_same}
 use Rattle.o2_replay_laws.proofs.Stable.SameJournal.{among_got}
 use Rattle.o2_replay_laws.proofs.Stable.Alike.{SameSizes, extents_alike}
+use Rattle.o2_laws.proofs.Members.{among_left, among_right}
 
 alike_per_cluster : (v u : Volume) → SameSizes v u → per_cluster u ≡ per_cluster v
 alike_per_cluster v u sizes = rw (sizes.block_bits, sizes.cluster_bits) refl

@@ -21,12 +21,13 @@ use Rattle.o2_model.specs.Dirty.{slot_journal, is_dirty_slot, dirty_slots, journ
 use Rattle.o2_model.specs.Anchors.{directory_anchors, journal_anchors, anchors_of, is_anchor, is_super_change, is_directory_change, is_journal_change, is_allowed_write, keeps_journal, is_sound_write, bad_writes, log_fault}
 use Rattle.o2_model.specs.Checks.Super.{super_faults}
 use Rattle.o2_model.specs.Checks.Sysdir.{is_sound_directory, sysdir_faults}
-use Rattle.o2_laws.proofs.Members.{contains_filter}
-use Rattle.o2_laws.proofs.Found.{contains_first}
-use Rattle.o2_replay_laws.proofs.Stable.SameDirectory.{among_left, among_right, among_first, sound_extents, directory_is_anchor, directory_entries_same, system_inode_same}
+use Rattle.o2_laws.proofs.Members.{contains_filter, among_left, among_right}
+use Rattle.o2_laws.proofs.Found.{contains_first, map_none}
+use Rattle.o2_replay_laws.proofs.Stable.SameDirectory.{among_first, sound_extents, directory_is_anchor, directory_entries_same, system_inode_same}
 use Rattle.o2_replay_laws.proofs.Stable.SameJournal.{usable_extents}
-use Rattle.o2_replay_laws.proofs.Stable.OneSlot.{holds_unless, first_none, map_none, none_filtered, told, named_by_slot}
+use Rattle.o2_replay_laws.proofs.Stable.OneSlot.{first_none, none_filtered, told, named_by_slot}
 use Rattle.o2_replay_laws.proofs.Stable.Written.{writes_to, write_of, not_written, bytes_kept, first_apart, parts_apart}
+use Rattle.o2_laws.proofs.Failing.{holds_unless}
 
 -- The one dirty slot of the volume is s, its journal is j, and the volume can be replayed.
 pub record CanReplay (v : Volume) (s j : ℕ) : Type 0 where

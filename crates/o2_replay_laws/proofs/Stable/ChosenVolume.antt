@@ -20,7 +20,7 @@ use Rattle.o2_model.specs.Logs.{LoggedBlock, log_in, unrevoked}
 use Rattle.o2_model.specs.Dirty.{committed_writes, log_of, bytes_after, as_logged}
 use Rattle.o2_model.specs.Anchors.{slots_in, is_anchor, directory_anchors, journal_anchors}
 use Rattle.o2_replay_laws.specs.FourImages.{IsCounted, IsNamed, IsUnmarked}
-use Rattle.o2_replay_laws.proofs.Stable.SameDirectory.{directory_is_anchor, among_left, among_right, sound_extents}
+use Rattle.o2_replay_laws.proofs.Stable.SameDirectory.{directory_is_anchor, sound_extents}
 use Rattle.o2_replay_laws.proofs.Stable.Written.{writes_to, writes_there, bytes_kept, bytes_put, bytes_of_write}
 use Rattle.o2_replay_laws.proofs.Stable.CanReplay as sound
 use Rattle.o2_replay_laws.proofs.Stable.SameRead.{IsCountedBy, SameRead}
@@ -28,6 +28,7 @@ use Rattle.o2_replay_laws.proofs.Stable.Alike.{SameSizes}
 use Rattle.o2_replay_laws.proofs.Stable.AlikeParts.{entries_alike, log_alike}
 use Rattle.o2_replay_laws.proofs.Stable.TornBlocks.{old_or_put, first_number, first_number_put}
 use Rattle.o2_replay_laws.proofs.Stable.ChosenImage
+use Rattle.o2_laws.proofs.Members.{among_left, among_right}
 
 -- by the same entries, the same names
 inode_alike : (v u : Volume) (file : SystemFile) → u.geo.sysdir ≡ v.geo.sysdir → directory_entries u v.geo.sysdir ≡ directory_entries v v.geo.sysdir → system_inode u file ≡ system_inode v file

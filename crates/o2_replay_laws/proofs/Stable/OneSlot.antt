@@ -1,10 +1,9 @@
 -- What the words of a replay say of a volume with one dirty slot.
-use Rattle.std.proofs.Common.{◌≡◌, inl, inr, ℕ, ◌<◌, Bool, true, false, ◌&&◌, not, ◌==◌, List, [], ◌∷◌, ◌++◌, map, refl, subst, arith, Option, Some, None}
+use Rattle.std.proofs.Common.{◌≡◌, inl, inr, ℕ, ◌<◌, Bool, true, false, ◌&&◌, not, ◌==◌, List, [], ◌∷◌, ◌++◌, refl, subst, arith, Option, Some, None}
 use Rattle.std.specs.Prelude.{filter, nat_lt, option_and_then}
 use Rattle.std.specs.List.{Contains, range_with_len}
 use Rattle.std.specs.Option.{option_map_or}
 use Rattle.o2_model.specs.declared.journal_part.JournalPart.{JournalPart}
-use Rattle.o2_model.specs.Words.{fails_unless}
 use Rattle.o2_model.specs.Orders.{first_of, from_to}
 use Rattle.o2_laws.proofs.Found.{range_bounds}
 use Rattle.o2_laws.proofs.Members.{contains_cases, contains_filter}
@@ -25,17 +24,9 @@ pub below_high : (low high n : ℕ) → Contains (from_to low high) n → n < hi
 below_high low high n is = below high n (contains_filter (λ m. not (nat_lt m low)) (range_with_len 0 high) n is).0
 
 -- ---- what is empty
-pub holds_unless : (b : ℕ) (x : Bool) → fails_unless b x ≡ [] → x ≡ true
-holds_unless b true h = refl
-holds_unless b false h = cc
-
 pub first_none : {A : Type 0} (xs : List A) → first_of xs ≡ None → xs ≡ []
 first_none [] h = refl
 first_none (x ∷ xs) h = cc
-
-pub map_none : {A B : Type 0} (f : A → B) (xs : List A) → map f xs ≡ [] → xs ≡ []
-map_none f [] h = refl
-map_none f (x ∷ xs) h = cc
 
 pub none_filtered : {A : Type 0} (p : A → Bool) (xs : List A) (x : A) → filter (λ y. not (p y)) xs ≡ [] → Contains xs x → p x ≡ true
 none_filtered p [] x none is = absurd (omega (arith, is.1))
@@ -63,9 +54,6 @@ named_by_slot v s j is = go (named_journal v s) refl is
     ]
 
 -- an inode that is not marked is no dirty journal
-pub clean_if : (v : Volume) (b : ℕ) → is_dirty v b ≡ false → option_map_or (is_dirty v) (journal_if v b) false ≡ false
-clean_if v b clean = elim (cases_Bool (is_journal v b)) [ inl is ↦ rw is clean | inr other ↦ rw other refl ]
-
 pub no_dirty_journal : (v : Volume) (b : ℕ) → is_dirty v b ≡ false → (is_journal v b && is_dirty v b) ≡ false
 no_dirty_journal v b clean = elim (cases_Bool (is_journal v b)) [ inl is ↦ rw (is, clean) refl | inr other ↦ rw other refl ]
 

@@ -1,6 +1,6 @@
 -- Blocks that agree on a directory's anchors have the same directory: extents, blocks, entries, and what is asked of it.
 use Rattle.std.proofs.Common.{◌≡◌, ◌⊎◌, inl, inr, ℕ, Bool, true, false, ◌&&◌, not, ◌==◌, List, [], ◌∷◌, ◌++◌, map, refl, sym, ◌∙◌, ap}
-use Rattle.std.proofs.lemmas.Bool.{cases_Bool, or_left, or_right, or_cases, and_parts, eq-eqb, false≢true}
+use Rattle.std.proofs.lemmas.Bool.{cases_Bool, or_left, or_cases, and_parts, eq-eqb}
 use Rattle.std.proofs.lemmas.List.Folds.{list_any-append}
 use Rattle.o2_ondisk.specs.Bits.{has_bits}
 use Rattle.o2_model.specs.declared.system_file.SystemFile.{SystemFile}
@@ -8,13 +8,12 @@ use Rattle.o2_model.specs.Words.{among}
 use Rattle.o2_model.specs.Orders.{is_none_of}
 use Rattle.o2_laws.specs.Frames.{SameOn}
 use Rattle.o2_model.specs.Volume.{Volume, over, dinode, is_valid}
-use Rattle.o2_model.specs.Extents.{nothing_read}
 use Rattle.o2_model.specs.Inodes.{extents, is_inline, has_list, holds_list, has_data, has_fast_text, no_list_flags, is_directory, kind, extent_blocks_of}
 use Rattle.o2_model.specs.Directories.{dir_blocks, directory_entries, own_inodes}
 use Rattle.o2_model.specs.SystemFiles.{system_inode}
 use Rattle.o2_model.specs.Anchors.{directory_anchors}
 use Rattle.o2_model.specs.Checks.Extent.{extent_faults}
-use Rattle.o2_model.specs.Checks.InodeSize.{has_sound_size, inode_size_faults, is_size_of_kind}
+use Rattle.o2_model.specs.Checks.InodeSize.{inode_size_faults}
 use Rattle.o2_model.specs.Checks.DirBlock.{dir_block_faults}
 use Rattle.o2_model.specs.Checks.DirentName.{dirent_name_faults}
 use Rattle.o2_model.specs.Checks.DirentDup.{dirent_dup_faults}
@@ -22,21 +21,15 @@ use Rattle.o2_model.specs.Checks.Sysdir.{directory_faults, is_sound_directory}
 use Rattle.o2_laws.proofs.Readings.{extents_same}
 use Rattle.o2_model.proofs.Readings.{faults_of_own_list}
 use Rattle.o2_laws.proofs.SameEntries.{dir_blocks_same, entries_same}
-use Rattle.o2_laws.proofs.WellRead.{extents_well, extent_blocks_are}
-use Rattle.o2_laws.proofs.Found.{append_nothing}
-use Rattle.o2_laws.proofs.SameContents.{kind_same}
+use Rattle.o2_laws.proofs.WellRead.{extents_well, extent_blocks_are, no_list}
+use Rattle.o2_laws.proofs.Found.{append_nothing, none_of}
 use Rattle.o2_laws.proofs.Kept.JournalsKeep.{extent_faults_same}
-use Rattle.o2_laws.proofs.Kept.InodeChecksKeep.{size_of_kind_same}
+use Rattle.o2_laws.proofs.Kept.InodeChecksKeep.{size_same}
+use Rattle.o2_laws.proofs.Members.{among_left, among_right}
 
 -- ---- what is among the anchors
 among_both : (xs ys : List ℕ) (b : ℕ) → among (xs ++ ys) b ≡ true → (among xs b ≡ true) ⊎ (among ys b ≡ true)
 among_both xs ys b h = or_cases (among xs b) (among ys b) (sym (list_any-append (λ m. b == m) xs ys) ∙ h)
-
-pub among_left : (xs ys : List ℕ) (b : ℕ) → among xs b ≡ true → among (xs ++ ys) b ≡ true
-among_left xs ys b h = list_any-append (λ m. b == m) xs ys ∙ or_left _ _ h
-
-pub among_right : (xs ys : List ℕ) (b : ℕ) → among ys b ≡ true → among (xs ++ ys) b ≡ true
-among_right xs ys b h = list_any-append (λ m. b == m) xs ys ∙ or_right _ _ h
 
 pub among_first : (b : ℕ) (bs : List ℕ) → among (b ∷ bs) b ≡ true
 among_first b bs = or_left _ _ (eq-eqb b b refl)
@@ -51,14 +44,10 @@ inline_no_list v d inline = rw inline (lacks (has_data (kind v d)) (not (has_fas
     lacks true false c = refl
     lacks false b c = refl
 
-no_extents : (v : Volume) (d : ℕ) → has_list v d ≡ false → extents v d ≡ nothing_read
-unfolding extents
-no_extents v d none = rw none refl
-
 pub looked_at_is_anchor : (v : Volume) (d b : ℕ) → (extents v d).faults ≡ [] → among (d ∷ (extents v d).seen) b ≡ true → among (directory_anchors v d) b ≡ true
 looked_at_is_anchor v d b none h = elim (cases_Bool (is_inline v d)) [
   | inl inline ↦
-      let empty : (extents v d).seen ≡ [] = ap (λ t. t.seen) (no_extents v d (inline_no_list v d inline)) in
+      let empty : (extents v d).seen ≡ [] = ap (λ t. t.seen) (no_list v d (inline_no_list v d inline)) in
       rw inline (ap (λ ns. among (d ∷ ns) b) (sym empty) ∙ h)
   | inr outside ↦
       let are : (extents v d).seen ≡ extent_blocks_of v d = (extents_well v d).seen none ∙ sym (extent_blocks_are v d) in
@@ -114,18 +103,6 @@ pub system_inode_same : (v : Volume) (at : ℕ → List ℕ) (file : SystemFile)
 unfolding system_inode
 system_inode_same v at file entries = rw entries refl
 
-kind_inline : (v : Volume) (at : ℕ → List ℕ) (b : ℕ) → at b ≡ v.at b → is_inline (over v at) b ≡ is_inline v b
-kind_inline v at b inode = rw inode refl
-
-size_same : (v : Volume) (at : ℕ → List ℕ) (d : ℕ) → at d ≡ v.at d → extents (over v at) d ≡ extents v d → dir_blocks (over v at) d ≡ dir_blocks v d → own_inodes (over v at) ≡ own_inodes v
-    → has_sound_size (over v at) d ≡ has_sound_size v d
-unfolding has_sound_size
-size_same v at d inode list blocks own = elim (cases_Bool (is_inline v d)) [
-  | inl inline ↦ rw (inode, inline) refl
-  | inr outside ↦ rw (kind_inline v at d inode, outside) (ap (is_size_of_kind (over v at) d) (kind_same v at d inode)
-      ∙ size_of_kind_same v at d inode list own (kind v d) (λ h. blocks))
-]
-
 -- it is sound as it was
 pub sound_directory_same : (v : Volume) (at : ℕ → List ℕ) → SameOn (directory_anchors v v.geo.sysdir) v at → (extents v v.geo.sysdir).faults ≡ []
     → is_sound_directory (over v at) v.geo.sysdir ≡ is_sound_directory v v.geo.sysdir
@@ -137,7 +114,7 @@ sound_directory_same v at same none =
     let blocks = directory_blocks_same v at d same none in
     let entries = directory_entries_same v at d same none in
     let extent = extent_faults_same v at d list in
-    let size = size_same v at d inode list blocks (own_entries v at entries) in
+    let size = size_same v at d inode list (own_entries v at entries) (λ h. blocks) in
     rw (extent, size, blocks, entries, inode) refl
 
 -- a sound directory has no fault in its extents
@@ -146,13 +123,9 @@ unfolding is_sound_directory
 sound_extents v d sound =
     let parts = and_parts (is_valid v d && is_directory v d) (is_none_of (directory_faults v d)) sound in
     let three = extent_faults v d ++ inode_size_faults v d ++ dir_block_faults v d in
-    let none : three ++ dirent_name_faults v d ≡ [] = first_none (three ++ dirent_name_faults v d) (dirent_dup_faults v d) (nothing (directory_faults v d) parts.1) in
+    let none : three ++ dirent_name_faults v d ≡ [] = first_none (three ++ dirent_name_faults v d) (dirent_dup_faults v d) (none_of (directory_faults v d) parts.1) in
     let early : extent_faults v d ++ inode_size_faults v d ≡ [] = first_none _ (dir_block_faults v d) (first_none three (dirent_name_faults v d) none) in
     sym (faults_of_own_list v d) ∙ first_none (extent_faults v d) (inode_size_faults v d) early
   where
-    nothing : (ns : List ℕ) → is_none_of ns ≡ true → ns ≡ []
-    nothing [] h = refl
-    nothing (n ∷ ns) h = absurd (false≢true h)
-
     first_none : (xs ys : List ℕ) → xs ++ ys ≡ [] → xs ≡ []
     first_none xs ys h = (append_nothing xs ys h).0

@@ -2,18 +2,18 @@
 use Rattle.std.proofs.Common.{◌≡◌, inl, inr, ℕ, zero, suc, true, ◌&&◌, not, List, [], ◌∷◌, ◌++◌, refl, sym, ◌∙◌, ap, Some, None}
 use Rattle.std.specs.Prelude.{flat_map, slice_get}
 use Rattle.std.specs.Option.{option_map_or}
-use Rattle.std.proofs.lemmas.Bool.{cases_Bool, or_left, or_right, and_parts, eq-eqb, false≢true}
+use Rattle.std.proofs.lemmas.Bool.{cases_Bool, or_left, or_right, and_parts, eq-eqb}
 use Rattle.o2_ondisk.specs.JournalSupers.{journal_super_of}
 use Rattle.o2_model.specs.declared.journal_part.JournalPart.TheVariants as part
 use Rattle.o2_model.specs.Words.{among}
 use Rattle.o2_model.specs.Orders.{is_none_of, from_to}
 use Rattle.o2_laws.specs.Frames.{SameOn}
-use Rattle.o2_model.specs.Volume.{Volume, over, is_valid}
+use Rattle.o2_model.specs.Volume.{Volume, over}
 use Rattle.o2_model.specs.Inodes.{extents, leaf_records, extent_blocks_of}
 use Rattle.o2_model.specs.LeafRecords.{blocks_under}
 use Rattle.o2_model.specs.Journals.{is_dirty, journal_blocks, journal_block, journal_super, is_sound_journal_super, has_known_features}
 use Rattle.o2_model.specs.Logs.{log_blocks, log_in}
-use Rattle.o2_model.specs.Dirty.{is_journal, has_journal_extents, journal_part_fault}
+use Rattle.o2_model.specs.Dirty.{has_journal_extents, journal_part_fault}
 use Rattle.o2_model.specs.Anchors.{journal_anchors}
 use Rattle.o2_model.specs.Checks.Extent.{extent_faults}
 use Rattle.o2_laws.proofs.Readings.{extents_same}
@@ -21,7 +21,9 @@ use Rattle.o2_model.proofs.Readings.{faults_of_own_list}
 use Rattle.o2_laws.proofs.WellRead.{extents_well, extent_blocks_are}
 use Rattle.o2_laws.proofs.Agreeing.{map_agree, option_agree}
 use Rattle.o2_laws.proofs.Kept.JournalsKeep.{extent_faults_same}
-use Rattle.o2_replay_laws.proofs.Stable.SameDirectory.{among_left, among_right, among_first}
+use Rattle.o2_replay_laws.proofs.Stable.SameDirectory.{among_first}
+use Rattle.o2_laws.proofs.Found.{none_of}
+use Rattle.o2_laws.proofs.Members.{among_left, among_right}
 
 pub among_got : (ns : List ℕ) (k n : ℕ) → slice_get ns k ≡ Some n → among ns n ≡ true
 among_got [] k n is = cc
@@ -40,10 +42,6 @@ block_is_anchor v j b h = among_right (j ∷ extent_blocks_of v j) (journal_bloc
 pub journal_blocks_by_list : (v : Volume) (at : ℕ → List ℕ) (j : ℕ) → extents (over v at) j ≡ extents v j → journal_blocks (over v at) j ≡ journal_blocks v j
 unfolding journal_blocks
 journal_blocks_by_list v at j list = ap (λ t. flat_map (blocks_under v) t.leaves) list
-
-pub is_journal_same : (v : Volume) (at : ℕ → List ℕ) (b : ℕ) → at b ≡ v.at b → is_journal (over v at) b ≡ is_journal v b
-unfolding is_journal is_valid
-is_journal_same v at b same = rw same refl
 
 pub is_dirty_same : (v : Volume) (at : ℕ → List ℕ) (b : ℕ) → at b ≡ v.at b → is_dirty (over v at) b ≡ is_dirty v b
 is_dirty_same v at b same = rw same refl
@@ -105,10 +103,6 @@ module _ (v : Volume) (at : ℕ → List ℕ) (j : ℕ) (same : SameOn (journal_
   log_in_same = rw (blocks_of_log_same, journal_block_same 0) refl
 
 -- ---- a journal that can be used has no fault in its extents
-empty_is : (ns : List ℕ) → is_none_of ns ≡ true → ns ≡ []
-empty_is [] h = refl
-empty_is (n ∷ ns) h = absurd (false≢true h)
-
 pub usable_has_extents : (v : Volume) (j : ℕ) → journal_part_fault v j ≡ None → has_journal_extents v j ≡ true
 unfolding journal_part_fault
 usable_has_extents v j none = elim (cases_Bool (has_journal_extents v j)) [
@@ -121,4 +115,4 @@ usable_extents v j none =
     let has = usable_has_extents v j none in
     let parts = and_parts (is_none_of (extent_faults v j) && not (is_none_of (leaf_records v j))) _ has in
     let first = and_parts (is_none_of (extent_faults v j)) _ parts.0 in
-    sym (faults_of_own_list v j) ∙ empty_is (extent_faults v j) first.0
+    sym (faults_of_own_list v j) ∙ none_of (extent_faults v j) first.0

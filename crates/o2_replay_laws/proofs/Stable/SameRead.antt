@@ -23,9 +23,11 @@ use Rattle.o2_model.specs.Checks.Sysdir.{is_sound_directory, sysdir_faults}
 use Rattle.o2_model.specs.Replay.{dirty_journals}
 use Rattle.o2_laws.proofs.Agreeing.{filter_agree_on, all_agree, option_agree}
 use Rattle.o2_replay_laws.proofs.Stable.SameDirectory.{sound_directory_same, directory_entries_same, directory_anchors_same, system_inode_same}
-use Rattle.o2_replay_laws.proofs.Stable.SameJournal.{is_journal_same, is_dirty_same, journal_inode_same, journal_anchors_same, part_fault_same, log_in_same}
-use Rattle.o2_replay_laws.proofs.Stable.OneSlot.{below, below_high, named_by_slot, clean_if, no_dirty_journal, becomes_empty, is_change, anchors_by, logged_anchors_by}
+use Rattle.o2_replay_laws.proofs.Stable.SameJournal.{is_dirty_same, journal_inode_same, journal_anchors_same, part_fault_same, log_in_same}
+use Rattle.o2_replay_laws.proofs.Stable.OneSlot.{below, below_high, named_by_slot, no_dirty_journal, becomes_empty, is_change, anchors_by, logged_anchors_by}
 use Rattle.o2_replay_laws.proofs.Stable.CanReplay
+use Rattle.o2_laws.proofs.NothingDirty.{clean_journal}
+use Rattle.o2_laws.proofs.Kept.JournalsKeep.{journal_same as is_journal_same}
 
 -- The volume counts the slot, or a write to block 2 does.
 abbrev pub IsCountedBy : Volume → ℕ → ℕ → Type 0
@@ -72,7 +74,7 @@ module _ (v : Volume) (s j : ℕ) (can : CanReplay.CanReplay v s j) (at : ℕ �
       | inl is ↦ rw (is_journal_same v at b bytes, is) (is_dirty_same v at b bytes)
       | inr other ↦ rw (is_journal_same v at b bytes, other) refl
     ]
-    | inr clean ↦ clean_if (over v at) b clean.1 ∙ sym (clean_if v b clean.0)
+    | inr clean ↦ clean_journal (over v at) b clean.1 ∙ sym (clean_journal v b clean.0)
   ]
 
   dirty_same : (slot : ℕ) → slot < v.geo.slots → is_dirty_slot (over v at) slot ≡ is_dirty_slot v slot

@@ -7,7 +7,7 @@ use Rattle.o2_model.specs.Words.{among}
 use Rattle.o2_model.specs.Logs.{LoggedBlock}
 use Rattle.o2_model.specs.Dirty.{bytes_after}
 use Rattle.o2_laws.proofs.Found.{passing, found}
-use Rattle.o2_laws.proofs.Members.{contains_cases}
+use Rattle.o2_laws.proofs.Members.{contains_cases, among_right}
 
 -- one of the writes is to the block
 abbrev pub writes_to : List LoggedBlock → ℕ → Bool
@@ -88,10 +88,6 @@ pub parts_apart : (xs ys : List ℕ) (a b : ℕ) → IsDistinct nat_eq (xs ++ ys
 unfolding IsDistinct
 parts_apart [] ys a b distinct here there same = absurd (false≢true here)
 parts_apart (x ∷ xs) ys a b distinct here there same = elim (cases_Bool (a == x)) [
-  | inl first ↦ first_apart x (xs ++ ys) b distinct (behind xs ys b there) (sym (eqb-true a x first) ∙ same)
+  | inl first ↦ first_apart x (xs ++ ys) b distinct (among_right xs ys b there) (sym (eqb-true a x first) ∙ same)
   | inr later ↦ parts_apart xs ys a b distinct.1 (rw later at here) there same
 ]
-  where
-    behind : (xs ys : List ℕ) (b : ℕ) → among ys b ≡ true → among (xs ++ ys) b ≡ true
-    behind [] ys b h = h
-    behind (x ∷ xs) ys b h = or_right _ _ (behind xs ys b h)

@@ -1,4 +1,4 @@
-use Rattle.o2_laws.proofs.Owned.OwnedBlocks.{structures_claim, inodes_claim, claimed_owned}
+use Rattle.o2_laws.proofs.Held.LastingClaims.{structures_claim, inodes_claim, claimed_owned}
 use Rattle.o2_laws.proofs.owned_laws.claimed_blocks_are_owned.Goals as goal
 
 pub returns-clause-structures : goal.returns-clause-structures

@@ -1,4 +1,4 @@
-use Rattle.o2_laws.proofs.Owned.SystemOwned.{root_is_inode, sysdir_is_inode, file_is_inode, directory_apart}
+use Rattle.o2_laws.proofs.Held.OwnInodes.{root_is_inode, sysdir_is_inode, file_is_inode, directory_apart}
 use Rattle.o2_laws.proofs.owned_laws.own_files_are_inodes.Goals as goal
 
 pub returns-clause-root : goal.returns-clause-root

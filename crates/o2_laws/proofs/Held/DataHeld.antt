@@ -1,12 +1,14 @@
--- The blocks of an inode's clusters are owned.
-use Rattle.std.proofs.Common.{◌≡◌, inl, inr, ℕ, ◌+◌, ◌-◌, ◌*◌, ◌/◌, ◌<◌, ◌≤◌, Bool, true, false, ◌&&◌, ◌==◌, List, [], ◌∷◌, map, refl, sym, ◌∙◌, ap, subst, arith}
+-- The blocks of an inode's clusters are held.
+use Rattle.std.proofs.Common.{◌≡◌, inl, inr, ℕ, ◌+◌, ◌-◌, ◌*◌, ◌/◌, ◌<◌, ◌≤◌, Bool, true, false, ◌&&◌, ◌==◌, List, map, refl, sym, ◌∙◌, ap, subst, arith}
 use Rattle.std.specs.Prelude.{filter, flat_map, nat_lt}
 use Rattle.std.specs.List.{list_any, AllByRecursion, Contains, range_with_len}
-use Rattle.std.proofs.lemmas.Bool.{cases_Bool, and_from, and_parts, or_left, eq-eqb, eqb-true, not_from_false}
+use Rattle.std.proofs.lemmas.Bool.{cases_Bool, and_from, and_parts, eq-eqb, eqb-true, not_from_false}
 use Rattle.std.proofs.lemmas.Bool.Decides.{nat_tests}
 use Rattle.std.proofs.lemmas.Nat.{pow_pos}
 use Rattle.std.proofs.Math.Nat.{mul-div_cancel, mul-mod_left}
 use Rattle.o2_ondisk.specs.declared.extent_rec.ExtentRec.{ExtentRec}
+use Rattle.o2_model.specs.declared.claim.Claim.{Claim}
+use Rattle.o2_model.specs.declared.claim.Owner.{Owner}
 use Rattle.o2_model.specs.declared.claim.Owner.TheVariants.{Inode}
 use Rattle.o2_model.specs.Words.{among}
 use Rattle.o2_model.specs.Volume.{Volume, blocks, per_cluster, is_valid}
@@ -18,14 +20,14 @@ use Rattle.o2_model.specs.Directories.{dir_block, mapped, is_written, dir_blocks
 use Rattle.o2_model.specs.Journals.{journals}
 use Rattle.o2_model.specs.Groups.{is_inode, inodes_of, has_inode_bit}
 use Rattle.o2_laws.specs.Frames.{content_blocks}
-use Rattle.o2_model.specs.Claims.{claims_by, clusters_of, inode_claims}
-use Rattle.o2_model.specs.Owned.{needs_bytes, is_owned}
+use Rattle.o2_model.specs.Claims.{claims_by, clusters_of, inode_claims, claims_of}
+use Rattle.o2_laws.proofs.Held.HeldBlocks.{holds_bytes, is_held}
 use Rattle.o2_laws.proofs.Found.{found, any_map, any_flat, any_filter, any_range, passing, range_bounds, each_of}
-use Rattle.o2_laws.proofs.Members.{among_contains}
-use Rattle.o2_laws.proofs.Owned.OwnedBlocks.{owns, inode_owned, by_claim}
-use Rattle.o2_laws.proofs.Owned.GroupsOwned.{cluster_in}
+use Rattle.o2_laws.proofs.Members.{among_contains, among_one}
+use Rattle.o2_laws.proofs.Held.HeldBlocks.{inodes_find, by_need}
+use Rattle.o2_laws.proofs.Held.GroupsHeld.{cluster_in}
 use Rattle.o2_laws.proofs.WellRead.{BeginsCluster, extents_well, records_are}
-use Rattle.o2_laws.proofs.Owned.BitsOwned.{dinode_owned}
+use Rattle.o2_laws.proofs.Held.BitsHeld.{dinode_held}
 
 -- ---- the claims of an inode
 inode_below : (v : Volume) (b : ℕ) → is_valid v b ≡ true → b < blocks v
@@ -42,12 +44,19 @@ unfolding inodes_of
 among_inodes v i p is h =
     any_filter p (is_inode v) (range_with_len 0 (blocks v)) ∙ any_range (λ b. is_inode v b && p b) 0 (blocks v) i (omega arith) (omega (arith, inode_in v i is)) (and_from _ _ is h)
 
--- a block of a cluster that an inode maps, and needs
-pub mapped_owned : (v : Volume) (i b : ℕ) → is_inode v i ≡ true → needs_bytes v (Inode i) b ≡ true → list_any (λ c. c == cluster_of v b) (clusters_of v i) ≡ true → is_owned v b ≡ true
+-- a block of a cluster that an inode maps, by what an owner needs
+pub mapped_claimed : (needs : Owner → Bool) (v : Volume) (i b : ℕ) → is_inode v i ≡ true → needs (Inode i) ≡ true → list_any (λ c. c == cluster_of v b) (clusters_of v i) ≡ true
+    → list_any (λ k. k.cluster == cluster_of v b && needs k.owner) (claims_of v) ≡ true
 unfolding inode_claims
-mapped_owned v i b is needs h =
-    inode_owned v b (any_flat (owns v b) (λ d. claims_by (Inode d) (clusters_of v d)) (inodes_of v)
-    ∙ among_inodes v i (λ d. list_any (owns v b) (claims_by (Inode d) (clusters_of v d))) is (by_claim v b (Inode i) (clusters_of v i) needs h))
+mapped_claimed needs v i b is need h =
+    let p : Claim → Bool = λ k. k.cluster == cluster_of v b && needs k.owner in
+    inodes_find v p (any_flat p (λ d. claims_by (Inode d) (clusters_of v d)) (inodes_of v)
+    ∙ among_inodes v i (λ d. list_any p (claims_by (Inode d) (clusters_of v d))) is (by_need needs v b (Inode i) (clusters_of v i) need h))
+
+-- it is held, where the inode is no journal
+mapped_held : (v : Volume) (i b : ℕ) → is_inode v i ≡ true → among (journals v) i ≡ false → list_any (λ c. c == cluster_of v b) (clusters_of v i) ≡ true → is_held v b ≡ true
+unfolding is_held
+mapped_held v i b is apart h = mapped_claimed (holds_bytes v) v i b is (not_from_false _ apart) h
 
 -- ---- records
 -- the cluster of a block under a record is under it
@@ -79,8 +88,8 @@ under_records v b rs all h =
 pub data_mapped : (v : Volume) (i b : ℕ) → among (data_blocks v i) b ≡ true → list_any (λ c. c == cluster_of v b) (clusters_of v i) ≡ true
 data_mapped v i b h = ap (λ rs. list_any (λ c. c == cluster_of v b) (flat_map (clusters_under v) rs)) (records_are v i) ∙ under_records v b (leaf_records v i) (extents_well v i).leaves h
 
-pub data_owned : (v : Volume) (i b : ℕ) → is_inode v i ≡ true → among (journals v) i ≡ false → among (data_blocks v i) b ≡ true → is_owned v b ≡ true
-data_owned v i b is apart h = mapped_owned v i b is (or_left _ _ (not_from_false _ apart)) (data_mapped v i b h)
+pub data_held : (v : Volume) (i b : ℕ) → is_inode v i ≡ true → among (journals v) i ≡ false → among (data_blocks v i) b ≡ true → is_held v b ≡ true
+data_held v i b is apart h = mapped_held v i b is apart (data_mapped v i b h)
 
 -- ---- some of these blocks
 written_among : (v : Volume) (b : ℕ) (rs : List ExtentRec) → among (flat_map (blocks_under v) (filter is_written rs)) b ≡ true → among (flat_map (blocks_under v) rs) b ≡ true
@@ -89,8 +98,8 @@ written_among v b rs h =
     (sym (any_filter (λ r. among (blocks_under v r) b) is_written rs) ∙ (sym (any_flat (λ m. b == m) (blocks_under v) (filter is_written rs)) ∙ h)) in
     any_flat (λ m. b == m) (blocks_under v) rs ∙ found (λ r. among (blocks_under v r) b) rs r.item r.inside (and_parts (is_written r.item) (among (blocks_under v r.item) b) r.passes).1
 
-pub content_owned : (v : Volume) (i b : ℕ) → is_inode v i ≡ true → among (journals v) i ≡ false → among (content_blocks v i) b ≡ true → is_owned v b ≡ true
-content_owned v i b is apart h = data_owned v i b is apart (written_among v b (leaf_records v i) h)
+pub content_held : (v : Volume) (i b : ℕ) → is_inode v i ≡ true → among (journals v) i ≡ false → among (content_blocks v i) b ≡ true → is_held v b ≡ true
+content_held v i b is apart h = data_held v i b is apart (written_among v b (leaf_records v i) h)
 
 mapped_among : (v : Volume) (limit b : ℕ) (r : ExtentRec) → list_any (λ x. b == x.block) (mapped v limit r) ≡ true → among (blocks_under v r) b ≡ true
 mapped_among v limit b r h =
@@ -109,13 +118,10 @@ runs_among v limit b rs h =
     (sym (any_flat (λ x. b == x.block) (mapped v limit) rs) ∙ (sym (any_map (λ m. b == m) (λ x. x.block) (flat_map (mapped v limit) rs)) ∙ h)) in
     any_flat (λ m. b == m) (blocks_under v) rs ∙ found (λ r. among (blocks_under v r) b) rs r.item r.inside (mapped_among v limit b r.item r.passes)
 
-single : (b d : ℕ) → among (d ∷ []) b ≡ true → (b == d) ≡ true
-single b d h = grind arith
-
-pub directory_owned : (v : Volume) (d b : ℕ) → is_inode v d ≡ true → among (journals v) d ≡ false → among (map (λ x. x.block) (dir_blocks v d)) b ≡ true → is_owned v b ≡ true
+pub directory_held : (v : Volume) (d b : ℕ) → is_inode v d ≡ true → among (journals v) d ≡ false → among (map (λ x. x.block) (dir_blocks v d)) b ≡ true → is_held v b ≡ true
 unfolding dir_blocks
-directory_owned v d b is apart h = elim (cases_Bool (is_inline v d)) [
+directory_held v d b is apart h = elim (cases_Bool (is_inline v d)) [
   | inl inline ↦
-      subst (λ x. is_owned v x ≡ true) (omega (arith, eqb-true b d (single b d (rw inline at h)))) (dinode_owned v d is)
-  | inr outside ↦ content_owned v d b is apart (runs_among v _ b (filter is_written (leaf_records v d)) (rw outside at h))
+      subst (λ x. is_held v x ≡ true) (omega (arith, eqb-true b d (among_one b d (rw inline at h)))) (dinode_held v d is)
+  | inr outside ↦ content_held v d b is apart (runs_among v _ b (filter is_written (leaf_records v d)) (rw outside at h))
 ]

@@ -1,13 +1,11 @@
--- What a claim owns, and that the claims of structures and inodes stay among all claims.
-use Rattle.std.proofs.Common.{◌≡◌, ◌∙◌, ℕ, Bool, true, false, ◌&&◌, ◌==◌, cond, List, [], ◌∷◌, ◌++◌, Option, Some, None}
+-- The claims of structures and inodes stay among all claims, and what a claim owns.
+use Rattle.std.proofs.Common.{◌≡◌, ℕ, Bool, true, false, ◌&&◌, ◌==◌, cond, List, [], ◌∷◌, ◌++◌, Option, Some, None}
 use Rattle.std.specs.Prelude.{fold}
-use Rattle.std.specs.List.{list_any, Contains, range_with_len}
+use Rattle.std.specs.List.{Contains, range_with_len}
 use Rattle.std.specs.Option.{option_map_or}
-use Rattle.std.proofs.lemmas.Bool.{and_from, or_left, or_right, eq-eqb}
-use Rattle.std.proofs.lemmas.List.Folds.{list_any-append}
+use Rattle.std.proofs.lemmas.Bool.{and_from, eq-eqb}
 use Rattle.std.proofs.lemmas.List.Elements.{Contains-append_left, Contains-append_right}
 use Rattle.o2_model.specs.declared.claim.Claim.{Claim}
-use Rattle.o2_model.specs.declared.claim.Owner.{Owner}
 use Rattle.o2_model.specs.declared.system_file.SlotFile.TheVariants as slot_file
 use Rattle.o2_model.specs.declared.system_file.SystemFile.TheVariants.{OfSlot}
 use Rattle.o2_model.specs.Volume.{Volume}
@@ -15,9 +13,9 @@ use Rattle.o2_model.specs.Clusters.{cluster_of}
 use Rattle.o2_model.specs.SystemFiles.{system_inode}
 use Rattle.o2_model.specs.Slots.{truncate_records}
 use Rattle.o2_model.specs.Indexes.{indexed_directories}
-use Rattle.o2_model.specs.Claims.{claims_by, structure_claims, inode_claims, with_index, claims_with_indexes, with_window_of, with_window, claims_with_windows, with_truncation, with_truncate_log, claims_with_truncations, claims_of}
+use Rattle.o2_model.specs.Claims.{structure_claims, inode_claims, with_index, claims_with_indexes, with_window_of, with_window, claims_with_windows, with_truncation, with_truncate_log, claims_with_truncations, claims_of}
 use Rattle.o2_model.specs.Owned.{needs_bytes, is_owned}
-use Rattle.o2_laws.proofs.Found.{found, any_map, passing}
+use Rattle.o2_laws.proofs.Found.{found}
 
 -- ---- claims stay
 -- what stays where claims are added
@@ -48,7 +46,7 @@ indexes_last P lasts v h =
     lasts_fold P (with_truncate_log v) (λ ks slot k. lasts_log P lasts v ks slot (system_inode v (OfSlot slot_file.TruncateLog slot)) k) _ (range_with_len 0 v.geo.slots) windows
 
 -- and of those of structures and inodes alone
-claims_last : (P : List Claim → Type 0) → Lasts P → (v : Volume) → P (structure_claims v ++ inode_claims v) → P (claims_of v)
+pub claims_last : (P : List Claim → Type 0) → Lasts P → (v : Volume) → P (structure_claims v ++ inode_claims v) → P (claims_of v)
 unfolding claims_with_indexes
 claims_last P lasts v h = indexes_last P lasts v (lasts_fold P (with_index v) (λ ks d k. lasts_if P lasts _ ks _ k) _ (indexed_directories v) h)
 
@@ -68,21 +66,3 @@ owns v b k = k.cluster == cluster_of v b && needs_bytes v k.owner b
 pub claimed_owned : (v : Volume) (k : Claim) (b : ℕ) → Contains (claims_of v) k → k.cluster ≡ cluster_of v b → needs_bytes v k.owner b ≡ true → is_owned v b ≡ true
 unfolding is_owned
 claimed_owned v k b is same needs = found (owns v b) (claims_of v) k is (and_from _ _ (eq-eqb k.cluster (cluster_of v b) same) needs)
-
--- a test that finds a claim of a structure or an inode finds it among all claims
-claims_find : (v : Volume) (p : Claim → Bool) → list_any p (structure_claims v ++ inode_claims v) ≡ true → list_any p (claims_of v) ≡ true
-claims_find v p h = claims_last (λ ks. list_any p ks ≡ true) (λ ks more k. list_any-append p ks more ∙ or_left _ _ k) v h
-
-pub structure_owned : (v : Volume) (b : ℕ) → list_any (owns v b) (structure_claims v) ≡ true → is_owned v b ≡ true
-unfolding is_owned
-structure_owned v b h = claims_find v (owns v b) (list_any-append (owns v b) (structure_claims v) (inode_claims v) ∙ or_left _ _ h)
-
-pub inode_owned : (v : Volume) (b : ℕ) → list_any (owns v b) (inode_claims v) ≡ true → is_owned v b ≡ true
-unfolding is_owned
-inode_owned v b h = claims_find v (owns v b) (list_any-append (owns v b) (structure_claims v) (inode_claims v) ∙ or_right _ _ h)
-
--- a cluster of the list that the owner claims, where it needs the block
-pub by_claim : (v : Volume) (b : ℕ) (owner : Owner) (cs : List ℕ) → needs_bytes v owner b ≡ true → list_any (λ c. c == cluster_of v b) cs ≡ true → list_any (owns v b) (claims_by owner cs) ≡ true
-by_claim v b owner cs needs h =
-    let c = passing (λ c. c == cluster_of v b) cs h in
-    any_map (owns v b) _ cs ∙ found (λ c. c == cluster_of v b && needs_bytes v owner b) cs c.item c.inside (and_from _ _ c.passes needs)

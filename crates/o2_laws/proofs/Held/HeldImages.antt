@@ -1,4 +1,4 @@
--- The superblock is owned, so that images that agree on the owned blocks are one volume, with the same tree and files.
+-- The superblock is held, so that images that agree on the held blocks are one volume, with the same tree and files.
 use Rattle.std.proofs.Common.{◌≡◌, ℕ, ◌-◌, ◌/◌, ◌^◌, ◌<◌, ◌≤◌, true, ◌&&◌, [], length, ◌∙◌, ap, arith}
 use Rattle.std.specs.Prelude.{nat_le}
 use Rattle.std.proofs.lemmas.Bool.{and_parts}
@@ -12,17 +12,16 @@ use Rattle.o2_model.specs.Files.{files_of}
 use Rattle.o2_model.specs.Tree.{tree_walk}
 use Rattle.o2_model.specs.Checks.Super.{is_super_dinode, has_sound_sizes, has_sound_first_group, has_sound_directories, is_sound_super, super_faults}
 use Rattle.o2_model.specs.Failing.{faults, failing}
-use Rattle.o2_model.specs.Owned.{is_owned}
-use Rattle.o2_laws.specs.Agrees.{AgreesOnOwned}
+use Rattle.o2_laws.proofs.Held.HeldBlocks.{is_held}
+use Rattle.o2_laws.proofs.Held.HeldBlocks.{AgreesOnHeld}
 use Rattle.o2_laws.proofs.NothingFails.{no_check_fails}
-use Rattle.o2_laws.proofs.Failing.{volume_of-over}
-use Rattle.o2_laws.proofs.Owned.SystemOwned.{holds_unless}
-use Rattle.o2_laws.proofs.Owned.GroupsOwned.{first_owned}
-use Rattle.o2_laws.proofs.Owned.OwnedTree.{owned_tell_tree}
-use Rattle.o2_laws.proofs.Owned.OwnedFiles.{owned_tell_files}
+use Rattle.o2_laws.proofs.Failing.{volume_of-over, holds_unless}
+use Rattle.o2_laws.proofs.Held.GroupsHeld.{first_held}
+use Rattle.o2_laws.proofs.Held.HeldTree.{held_tell_tree}
+use Rattle.o2_laws.proofs.Held.HeldFiles.{held_tell_files}
 
 -- ---- the superblock
-super_holds : (v : Volume) → failing v ≡ [] → super_faults v ≡ []
+pub super_holds : (v : Volume) → failing v ≡ [] → super_faults v ≡ []
 unfolding faults
 super_holds v none = no_check_fails v none check.Super
 
@@ -39,22 +38,22 @@ behind_super v h = grind (arith, nat_tests)
 earlier_cluster : (p b f : ℕ) → 0 < p → b ≤ f → b / p ≤ f / p
 earlier_cluster p b f some low = le-div (b / p) f p some (omega (arith, low, div-mul-le_self b p))
 
-pub super_owned : (v : Volume) (b : ℕ) → failing v ≡ [] → b ≤ 2 → is_owned v b ≡ true
-super_owned v b none low =
+pub super_held : (v : Volume) (b : ℕ) → failing v ≡ [] → b ≤ 2 → is_held v b ≡ true
+super_held v b none low =
     let first = behind_super v (sound_first v (holds_unless 2 (is_sound_super v) (super_holds v none))) in
-    first_owned v b (earlier_cluster (per_cluster v) b v.geo.first_group (pow_pos (v.geo.cluster_bits - v.geo.block_bits)) (omega (arith, low, first)))
+    first_held v b (earlier_cluster (per_cluster v) b v.geo.first_group (pow_pos (v.geo.cluster_bits - v.geo.block_bits)) (omega (arith, low, first)))
 
 -- ---- images
-pub owned_tell_volume : (I X : Image) (bits : ℕ) → failing (volume_of I bits) ≡ [] → length X ≡ length I → AgreesOnOwned (volume_of I bits) (block_at (2 ^ bits) X)
+pub held_tell_volume : (I X : Image) (bits : ℕ) → failing (volume_of I bits) ≡ [] → length X ≡ length I → AgreesOnHeld (volume_of I bits) (block_at (2 ^ bits) X)
     → volume_of X bits ≡ over (volume_of I bits) (block_at (2 ^ bits) X)
-owned_tell_volume I X bits none size agrees = volume_of-over I X bits size (agrees.same 2 (super_owned (volume_of I bits) 2 none (omega arith)))
+held_tell_volume I X bits none size agrees = volume_of-over I X bits size (agrees.same 2 (super_held (volume_of I bits) 2 none (omega arith)))
 
-pub owned_tell_image_tree : (I X : Image) (bits : ℕ) → failing (volume_of I bits) ≡ [] → length X ≡ length I → AgreesOnOwned (volume_of I bits) (block_at (2 ^ bits) X)
+pub held_tell_image_tree : (I X : Image) (bits : ℕ) → failing (volume_of I bits) ≡ [] → length X ≡ length I → AgreesOnHeld (volume_of I bits) (block_at (2 ^ bits) X)
     → tree_walk (volume_of X bits) ≡ tree_walk (volume_of I bits)
-owned_tell_image_tree I X bits none size agrees =
-    ap tree_walk (owned_tell_volume I X bits none size agrees) ∙ owned_tell_tree (volume_of I bits) (block_at (2 ^ bits) X) none agrees
+held_tell_image_tree I X bits none size agrees =
+    ap tree_walk (held_tell_volume I X bits none size agrees) ∙ held_tell_tree (volume_of I bits) (block_at (2 ^ bits) X) none agrees
 
-pub owned_tell_image_files : (I X : Image) (bits : ℕ) → failing (volume_of I bits) ≡ [] → length X ≡ length I → AgreesOnOwned (volume_of I bits) (block_at (2 ^ bits) X)
+pub held_tell_image_files : (I X : Image) (bits : ℕ) → failing (volume_of I bits) ≡ [] → length X ≡ length I → AgreesOnHeld (volume_of I bits) (block_at (2 ^ bits) X)
     → files_of (volume_of X bits) ≡ files_of (volume_of I bits)
-owned_tell_image_files I X bits none size agrees =
-    ap (λ v. files_of v) (owned_tell_volume I X bits none size agrees) ∙ owned_tell_files (volume_of I bits) (block_at (2 ^ bits) X) none agrees
+held_tell_image_files I X bits none size agrees =
+    ap (λ v. files_of v) (held_tell_volume I X bits none size agrees) ∙ held_tell_files (volume_of I bits) (block_at (2 ^ bits) X) none agrees

@@ -1,4 +1,4 @@
--- Where nothing fails, blocks that agree on the owned ones have the same extents, entries and contents of inodes.
+-- Where nothing fails, blocks that agree on the held ones have the same extents, entries and contents of inodes.
 use Rattle.std.proofs.Common.{◌≡◌, ⊎_elim, ℕ, true, false, ◌==◌, List, [], ◌∷◌, refl, sym, ◌∙◌, ap, subst}
 use Rattle.std.specs.Prelude.{flat_map}
 use Rattle.std.specs.List.{AllByRecursion, Contains, range_with_len}
@@ -17,8 +17,8 @@ use Rattle.o2_model.specs.Metadata.{list_blocks, refcount_blocks, metadata_block
 use Rattle.o2_model.specs.Checks.Extent.{extent_faults}
 use Rattle.o2_model.specs.Checks.MetaBlock.{meta_block_faults}
 use Rattle.o2_model.specs.Failing.{faults, failing}
-use Rattle.o2_model.specs.Owned.{is_owned}
-use Rattle.o2_laws.specs.Agrees.{AgreesOnOwned}
+use Rattle.o2_laws.proofs.Held.HeldBlocks.{is_held}
+use Rattle.o2_laws.proofs.Held.HeldBlocks.{AgreesOnHeld}
 use Rattle.o2_laws.proofs.NothingFails.{no_check_fails}
 use Rattle.o2_laws.proofs.Readings.{extents_same}
 use Rattle.o2_model.proofs.Readings.{faults_of_own_list}
@@ -27,8 +27,8 @@ use Rattle.o2_laws.proofs.SameContents.{content_same, file_same}
 use Rattle.o2_laws.proofs.Found.{append_nothing, any_flat, each_of}
 use Rattle.o2_laws.proofs.Members.{contains_filter, among_contains}
 use Rattle.o2_laws.proofs.WellRead.{extents_well, extent_blocks_are}
-use Rattle.o2_laws.proofs.Owned.BitsOwned.{dinode_owned, metadata_owned}
-use Rattle.o2_laws.proofs.Owned.DataOwned.{among_inodes, content_owned, directory_owned}
+use Rattle.o2_laws.proofs.Held.BitsHeld.{dinode_held, metadata_held}
+use Rattle.o2_laws.proofs.Held.DataHeld.{among_inodes, content_held, directory_held}
 
 -- ---- checks
 pub each_nothing : {A B : Type 0} (f : A → List B) (xs : List A) → flat_map f xs ≡ [] → AllByRecursion (λ x. f x ≡ []) xs
@@ -65,39 +65,39 @@ extent_block_listed v i b is h =
     ∙ or_left _ _ (any_flat (λ m. b == m) (extent_blocks_of v) (inodes_of v) ∙ among_inodes v i (λ d. among (extent_blocks_of v d) b) is (ap (λ bs. among bs b) (extent_blocks_are v i) ∙ h))
 
 -- the blocks that the reading of an inode's extents looks at
-pub looked_at_owned : (v : Volume) (i b : ℕ) → failing v ≡ [] → is_inode v i ≡ true → among (extents v i).seen b ≡ true → is_owned v b ≡ true
-looked_at_owned v i b none is h =
+pub looked_at_held : (v : Volume) (i b : ℕ) → failing v ≡ [] → is_inode v i ≡ true → among (extents v i).seen b ≡ true → is_held v b ≡ true
+looked_at_held v i b none is h =
     let blocks : among (extents v i).blocks b ≡ true = ap (λ bs. among bs b) (sym ((extents_well v i).seen (no_extent_fault v i none is))) ∙ h in
-    metadata_owned v b (metadata_holds v none) (extent_block_listed v i b is blocks)
+    metadata_held v b (metadata_holds v none) (extent_block_listed v i b is blocks)
 
-pub dinode_same : (v : Volume) (at : ℕ → List ℕ) (i : ℕ) → AgreesOnOwned v at → is_inode v i ≡ true → at i ≡ v.at i
-dinode_same v at i agrees is = agrees.same i (dinode_owned v i is)
+pub dinode_same : (v : Volume) (at : ℕ → List ℕ) (i : ℕ) → AgreesOnHeld v at → is_inode v i ≡ true → at i ≡ v.at i
+dinode_same v at i agrees is = agrees.same i (dinode_held v i is)
 
-pub owned_tell_extents : (v : Volume) (at : ℕ → List ℕ) (i : ℕ) → failing v ≡ [] → AgreesOnOwned v at → is_inode v i ≡ true → extents (over v at) i ≡ extents v i
-owned_tell_extents v at i none agrees is =
+pub held_tell_extents : (v : Volume) (at : ℕ → List ℕ) (i : ℕ) → failing v ≡ [] → AgreesOnHeld v at → is_inode v i ≡ true → extents (over v at) i ≡ extents v i
+held_tell_extents v at i none agrees is =
     extents_same v at i (record {
       same = λ b h. ⊎_elim
           (λ here. subst (λ x. at x ≡ v.at x) (sym (eqb-true b i here)) (dinode_same v at i agrees is))
-          (λ there. agrees.same b (looked_at_owned v i b none is there))
+          (λ there. agrees.same b (looked_at_held v i b none is there))
           (or_cases (b == i) (among (extents v i).seen b) h);
     }) (no_extent_fault v i none is)
 
 -- ---- entries and contents
-pub owned_tell_dir_blocks : (v : Volume) (at : ℕ → List ℕ) (d : ℕ) → failing v ≡ [] → AgreesOnOwned v at → is_inode v d ≡ true → among (journals v) d ≡ false → dir_blocks (over v at) d ≡ dir_blocks v d
-owned_tell_dir_blocks v at d none agrees is apart =
-    dir_blocks_same v at d (dinode_same v at d agrees is) (owned_tell_extents v at d none agrees is)
-    (record { same = λ b h. agrees.same b (directory_owned v d b is apart h) })
+pub held_tell_dir_blocks : (v : Volume) (at : ℕ → List ℕ) (d : ℕ) → failing v ≡ [] → AgreesOnHeld v at → is_inode v d ≡ true → among (journals v) d ≡ false → dir_blocks (over v at) d ≡ dir_blocks v d
+held_tell_dir_blocks v at d none agrees is apart =
+    dir_blocks_same v at d (dinode_same v at d agrees is) (held_tell_extents v at d none agrees is)
+    (record { same = λ b h. agrees.same b (directory_held v d b is apart h) })
 
-pub owned_tell_entries : (v : Volume) (at : ℕ → List ℕ) (d : ℕ) → failing v ≡ [] → AgreesOnOwned v at → is_inode v d ≡ true → among (journals v) d ≡ false → directory_entries (over v at) d ≡ directory_entries v d
+pub held_tell_entries : (v : Volume) (at : ℕ → List ℕ) (d : ℕ) → failing v ≡ [] → AgreesOnHeld v at → is_inode v d ≡ true → among (journals v) d ≡ false → directory_entries (over v at) d ≡ directory_entries v d
 unfolding directory_entries
-owned_tell_entries v at d none agrees is apart =
-    ap (flat_map entries_of_block) (owned_tell_dir_blocks v at d none agrees is apart)
+held_tell_entries v at d none agrees is apart =
+    ap (flat_map entries_of_block) (held_tell_dir_blocks v at d none agrees is apart)
 
-pub owned_tell_content : (v : Volume) (at : ℕ → List ℕ) (i : ℕ) → failing v ≡ [] → AgreesOnOwned v at → is_inode v i ≡ true → among (journals v) i ≡ false → content_of (over v at) i ≡ content_of v i
-owned_tell_content v at i none agrees is apart =
-    content_same v at i (dinode_same v at i agrees is) (owned_tell_extents v at i none agrees is)
-    (record { same = λ b h. agrees.same b (content_owned v i b is apart h) })
-    (record { same = λ b h. agrees.same b (directory_owned v i b is apart h) })
+pub held_tell_content : (v : Volume) (at : ℕ → List ℕ) (i : ℕ) → failing v ≡ [] → AgreesOnHeld v at → is_inode v i ≡ true → among (journals v) i ≡ false → content_of (over v at) i ≡ content_of v i
+held_tell_content v at i none agrees is apart =
+    content_same v at i (dinode_same v at i agrees is) (held_tell_extents v at i none agrees is)
+    (record { same = λ b h. agrees.same b (content_held v i b is apart h) })
+    (record { same = λ b h. agrees.same b (directory_held v i b is apart h) })
 
-pub owned_tell_file : (v : Volume) (at : ℕ → List ℕ) (i : ℕ) → failing v ≡ [] → AgreesOnOwned v at → is_inode v i ≡ true → among (journals v) i ≡ false → file_of (over v at) i ≡ file_of v i
-owned_tell_file v at i none agrees is apart = file_same v at i (dinode_same v at i agrees is) (owned_tell_content v at i none agrees is apart)
+pub held_tell_file : (v : Volume) (at : ℕ → List ℕ) (i : ℕ) → failing v ≡ [] → AgreesOnHeld v at → is_inode v i ≡ true → among (journals v) i ≡ false → file_of (over v at) i ≡ file_of v i
+held_tell_file v at i none agrees is apart = file_same v at i (dinode_same v at i agrees is) (held_tell_content v at i none agrees is apart)

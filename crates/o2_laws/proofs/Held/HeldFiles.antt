@@ -1,4 +1,4 @@
--- Where nothing fails, blocks that agree on the owned ones have the same files at the paths of the tree.
+-- Where nothing fails, blocks that agree on the held ones have the same files at the paths of the tree.
 use Rattle.std.proofs.Common.{◌≡◌, inl, inr, ℕ, true, false, not, List, [], ◌∷◌, map, ◌∙◌, ap, subst}
 use Rattle.std.specs.Prelude.{flat_map}
 use Rattle.std.specs.Option.{option_map_or}
@@ -17,16 +17,16 @@ use Rattle.o2_model.specs.Journals.{journals}
 use Rattle.o2_laws.specs.Frames.{entered_inodes as inodes_entered}
 use Rattle.o2_model.specs.Tree.{TreeWalk, names_users, path_cmp, tree_walk, met_inodes, tree_inodes}
 use Rattle.o2_model.specs.Failing.{failing}
-use Rattle.o2_laws.specs.Agrees.{AgreesOnOwned}
+use Rattle.o2_laws.proofs.Held.HeldBlocks.{AgreesOnHeld}
 use Rattle.o2_laws.proofs.Agreeing.{map_agree}
 use Rattle.o2_laws.proofs.FirstNames.{found_name, one_at_only}
 use Rattle.o2_laws.proofs.Found.{all_map, all_push, each_of}
 use Rattle.o2_laws.proofs.Members.{flat_contains}
 use Rattle.o2_laws.proofs.Rising.{all_rising}
 use Rattle.o2_laws.proofs.TreeWalks.{Keeps, users_inode, walk_keeps}
-use Rattle.o2_laws.proofs.Owned.SystemOwned.{root_is_inode, root_is_directory, directory_apart, users_apart}
-use Rattle.o2_laws.proofs.Owned.OwnedTells.{owned_tell_file}
-use Rattle.o2_laws.proofs.Owned.OwnedTree.{owned_tell_tree}
+use Rattle.o2_laws.proofs.Held.OwnInodes.{root_is_inode, root_is_directory, directory_apart, users_apart}
+use Rattle.o2_laws.proofs.Held.HeldTells.{held_tell_file}
+use Rattle.o2_laws.proofs.Held.HeldTree.{held_tell_tree}
 
 -- ---- what has a name
 -- an inode that is no journal
@@ -61,9 +61,9 @@ tree_named v none =
     walk_keeps v (λ w. AllReadable v w.names) (follow_named v none)
     (record { inode = root_is_inode v none; apart = directory_apart v v.geo.root none (root_is_directory v none) }, tt) (blocks v)
 
-pub owned_tell_met_inodes : (v : Volume) (at : ℕ → List ℕ) → failing v ≡ [] → AgreesOnOwned v at → met_inodes (over v at) ≡ met_inodes v
+pub held_tell_met_inodes : (v : Volume) (at : ℕ → List ℕ) → failing v ≡ [] → AgreesOnHeld v at → met_inodes (over v at) ≡ met_inodes v
 unfolding met_inodes
-owned_tell_met_inodes v at none agrees = ap (λ (w : TreeWalk). rising (map (λ n. n.1) w.names)) (owned_tell_tree v at none agrees)
+held_tell_met_inodes v at none agrees = ap (λ (w : TreeWalk). rising (map (λ n. n.1) w.names)) (held_tell_tree v at none agrees)
 
 pub met_readable : (v : Volume) (b : ℕ) → failing v ≡ [] → Contains (met_inodes v) b → IsReadable v b
 unfolding met_inodes
@@ -72,10 +72,10 @@ met_readable v b none is =
     each_of (IsReadable v) (rising (map (λ n. n.1) names)) b (all_rising (IsReadable v) (map (λ n. n.1) names) (all_map (IsReadable v) (λ n. n.1) names (tree_named v none))) is
 
 -- ---- the inodes at the paths of the tree
-pub owned_tell_tree_inodes : (v : Volume) (at : ℕ → List ℕ) → failing v ≡ [] → AgreesOnOwned v at → tree_inodes (over v at) ≡ tree_inodes v
+pub held_tell_tree_inodes : (v : Volume) (at : ℕ → List ℕ) → failing v ≡ [] → AgreesOnHeld v at → tree_inodes (over v at) ≡ tree_inodes v
 unfolding tree_inodes
-owned_tell_tree_inodes v at none agrees =
-    ap (λ (w : TreeWalk). flat_map (λ n. option_map_or (λ b. b ∷ []) (finite.find path_cmp n.0 w.names) []) w.names) (owned_tell_tree v at none agrees)
+held_tell_tree_inodes v at none agrees =
+    ap (λ (w : TreeWalk). flat_map (λ n. option_map_or (λ b. b ∷ []) (finite.find path_cmp n.0 w.names) []) w.names) (held_tell_tree v at none agrees)
 
 pub tree_readable : (v : Volume) (b : ℕ) → failing v ≡ [] → Contains (tree_inodes v) b → IsReadable v b
 unfolding tree_inodes
@@ -86,9 +86,9 @@ tree_readable v b none is =
     subst (IsReadable v) found.inode_is (each_of (λ n. IsReadable v n.1) names found.name (tree_named v none) found.inside)
 
 -- ---- files
-pub owned_tell_files : (v : Volume) (at : ℕ → List ℕ) → failing v ≡ [] → AgreesOnOwned v at → files_of (over v at) ≡ files_of v
-owned_tell_files v at none agrees =
-    ap (λ bs. finite.from_entries {R = nat_cmp} (map {B = ℕ × File} (λ b. (b, file_of (over v at) b)) bs)) (owned_tell_tree_inodes v at none agrees)
+pub held_tell_files : (v : Volume) (at : ℕ → List ℕ) → failing v ≡ [] → AgreesOnHeld v at → files_of (over v at) ≡ files_of v
+held_tell_files v at none agrees =
+    ap (λ bs. finite.from_entries {R = nat_cmp} (map {B = ℕ × File} (λ b. (b, file_of (over v at) b)) bs)) (held_tell_tree_inodes v at none agrees)
     ∙ ap (λ es. finite.from_entries {R = nat_cmp} es)
     (map_agree {B = ℕ × File} (λ b. (b, file_of (over v at) b)) (λ b. (b, file_of v b)) (tree_inodes v)
-    (λ b is. let readable = tree_readable v b none is in ap (λ (f : File). (b, f)) (owned_tell_file v at b none agrees readable.inode readable.apart)))
+    (λ b is. let readable = tree_readable v b none is in ap (λ (f : File). (b, f)) (held_tell_file v at b none agrees readable.inode readable.apart)))

@@ -1,5 +1,5 @@
 -- Where nothing fails, the volume's own files are inodes, and no directory is a journal.
-use Rattle.std.proofs.Common.{◌≡◌, inl, inr, ℕ, Bool, true, false, ◌&&◌, ◌||◌, not, ◌==◌, List, [], ◌∷◌, ◌++◌, refl, sym, ◌∙◌, ap, subst, arith, Option, Some, None}
+use Rattle.std.proofs.Common.{◌≡◌, inl, inr, ℕ, Bool, true, false, ◌&&◌, ◌||◌, not, ◌==◌, List, [], ◌∷◌, ◌++◌, refl, sym, ◌∙◌, ap, subst, Option, Some, None, arith}
 use Rattle.std.specs.Prelude.{filter, codes, bytes_eq, is_some, option_map}
 use Rattle.std.specs.List.{AllByRecursion, Contains}
 use Rattle.std.specs.Option.{option_map_or}
@@ -24,14 +24,11 @@ use Rattle.o2_model.specs.Checks.Sysfile.{has_system_files, is_name_of_slot, has
 use Rattle.o2_model.specs.Failing.{faults, failing}
 use Rattle.o2_laws.proofs.NothingFails.{no_check_fails}
 use Rattle.o2_laws.proofs.SlotNames.{slot_only, slot_told_by_digits}
-use Rattle.o2_laws.proofs.Failing.{none_fails}
+use Rattle.o2_laws.proofs.Failing.{none_fails, holds_unless}
 use Rattle.o2_laws.proofs.Found.{append_nothing, found, any_map, any_filter, passing, any_flat, find_passing, each_of}
+use Rattle.o2_laws.proofs.Members.{among_one}
 
 -- ---- checks
-pub holds_unless : (b : ℕ) (holds : Bool) → fails_unless b holds ≡ [] → holds ≡ true
-holds_unless b true h = refl
-holds_unless b false h = cc
-
 files_hold : (v : Volume) → failing v ≡ [] → sysfile_faults v ≡ []
 unfolding faults
 files_hold v none = no_check_fails v none check.Sysfile
@@ -40,7 +37,7 @@ root_holds : (v : Volume) → failing v ≡ [] → root_faults v ≡ []
 unfolding faults
 root_holds v none = no_check_fails v none check.Root
 
-sysdir_holds : (v : Volume) → failing v ≡ [] → sysdir_faults v ≡ []
+pub sysdir_holds : (v : Volume) → failing v ≡ [] → sysdir_faults v ≡ []
 unfolding faults
 sysdir_holds v none = no_check_fails v none check.Sysdir
 
@@ -146,17 +143,9 @@ named_file v file b none h =
       own = subst (λ x. among (own_inodes v) x ≡ true) entry.2 (entry_own v entry.0 at.0 no_dots);
     }
 
-first_two : (a b c d e f g : Bool) → (a && b && c && d && e && f && g) ≡ true → (a ≡ true) × (b ≡ true)
-first_two a b c d e f g h =
-    let to_f = (and_parts (a && b && c && d && e && f) g h).0 in
-    let to_e = (and_parts (a && b && c && d && e) f to_f).0 in
-    let to_d = (and_parts (a && b && c && d) e to_e).0 in
-    let to_c = (and_parts (a && b && c) d to_d).0 in
-    and_parts a b (and_parts (a && b) c to_c).0
-
 sound_parts : (v : Volume) (e : Entry) → is_sound_system_entry v e ≡ true → (is_inode v e.inode ≡ true) × (has_kind_of_name v e ≡ true)
 unfolding is_sound_system_entry
-sound_parts v e h = first_two (is_inode v e.inode) (has_kind_of_name v e) _ _ _ _ _ h
+sound_parts v e h = (grind arith, grind arith)
 
 -- a file that is found is an inode
 pub file_is_inode : (v : Volume) (file : SystemFile) (b : ℕ) → failing v ≡ [] → system_inode v file ≡ Some b → is_inode v b ≡ true
@@ -211,12 +200,9 @@ journal_is_file v s b none h =
     subst (λ x. is_file v x ≡ true) named.inode
     (is_file_by_name v named.entry (no_orphan_name named.entry s named.name) (sound_parts v named.entry named.sound).1)
 
-one : (b c : ℕ) → among (c ∷ []) b ≡ true → (b == c) ≡ true
-one b c h = grind arith
-
 of_option : (b : ℕ) (o : Option ℕ) → among (option_map_or (λ c. c ∷ []) o []) b ≡ true → o ≡ Some b
 of_option b None h = absurd (false≢true h)
-of_option b (Some c) h = let same : b ≡ c = eqb-true b c (one b c h) in rw same refl
+of_option b (Some c) h = let same : b ≡ c = eqb-true b c (among_one b c h) in rw same refl
 
 -- the slot whose journal it is
 record IsJournal (v : Volume) (b : ℕ) : Type 0 where
