@@ -1,9 +1,9 @@
 -- The indexes of directories.
 use Rattle.std.specs.Prelude.{ℕ, ◌+◌, ◌-◌, ◌/◌, Bool, false, ◌&&◌, not, ◌==◌, nat_le, List, ◌∷◌, ◌++◌, flat_map, filter, length, drop, count_by, if◌then◌else◌}
 use Rattle.std.specs.List.{list_all}
-use Rattle.o2_ondisk.specs.Bits.{has_bits, indexed_dir_dyn_feature}
+use Rattle.o2_ondisk.specs.Bits.{has_bits, indexed_dir_dyn_feature, inline_index_flag}
 use Rattle.o2_ondisk.specs.DirTrailers.{dir_trailer_of}
-use Rattle.o2_ondisk.specs.DxRoots.{dx_root_of}
+use Rattle.o2_ondisk.specs.DxRoots.{dx_root_of, dx_root_list_place, dx_root_records_place}
 use Rattle.o2_ondisk.specs.DxLeaves.{dx_leaf_of}
 use Rattle.o2_ondisk.specs.DxListHeaders.{dx_list_header_of}
 use Rattle.o2_ondisk.specs.DxEntries.{dx_entry_of}
@@ -54,14 +54,14 @@ is_index_root v d b =
 
 -- `OCFS2_DX_FLAG_INLINE` of dr_flags: the index entries stand in the root
 abbrev pub is_inline_index : Volume → ℕ → Bool
-is_inline_index v b = has_bits (dx_root v b).flags 0x1
+is_inline_index v b = has_bits (dx_root v b).flags inline_index_flag
 
 -- what is read of the list in the root (ocfs2_extent_recs_per_dx_root), where there is one
 unfoldable pub index_extents : Volume → ℕ → Extents
 index_extents v d =
     let root = index_root v d in
     if is_index_root v d root && not (is_inline_index v root)
-    then read_list v 3 root 0xc0 ((block_size v - 208) / 16)
+    then read_list v 3 root dx_root_list_place ((block_size v - dx_root_records_place) / 16)
     else nothing_read
 
 -- the blocks that the index has of an extent_alloc: its root and the extent blocks of its list
@@ -110,7 +110,7 @@ is_sound_index_leaf v b =
 unfoldable pub index_entries : Volume → ℕ → List DxEntry
 index_entries v d =
     if is_inline_index v (index_root v d)
-    then dx_entries_at v 0xc0 (index_root v d)
+    then dx_entries_at v dx_root_list_place (index_root v d)
     else flat_map (dx_entries_at v 0x28) (index_leaves v d)
 
 -- ---- what an index is asked
@@ -131,7 +131,7 @@ has_sound_index_root v d = is_index_root v d (index_root v d) && is_own_block v 
 abbrev pub has_sound_index_lists : Volume → ℕ → Bool
 has_sound_index_lists v d =
     if is_inline_index v (index_root v d)
-    then is_sound_dx_list v 0xc0 (index_root v d)
+    then is_sound_dx_list v dx_root_list_place (index_root v d)
     else is_none_of (index_extents v d).faults
     && list_all (λ b. is_own_block v (extent_block_origin v b) b) (index_extents v d).blocks
     && list_all (is_sound_index_leaf v) (index_leaves v d)

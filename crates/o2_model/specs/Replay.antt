@@ -2,6 +2,7 @@
 use Rattle.std.specs.Prelude.{◌≡◌, ◌⊎◌, ℕ, ◌+◌, ◌-◌, ◌*◌, ◌/◌, ◌%◌, ◌<◌, nat_eq, Bool, true, ◌&&◌, nat_lt, nat_le, List, [], ◌∷◌, flat_map, fold, length, bytes_eq, Some, None}
 use Rattle.std.specs.List.{list_any, IsDistinct}
 use Rattle.std.specs.Option.{option_map_or}
+use Rattle.o2_ondisk.specs.Dinodes.{journal_flags_place}
 use Rattle.o2_ondisk.specs.Fields.{put_at}
 use Rattle.o2_ondisk.specs.Number.{number_at}
 use Rattle.o2_disk.specs.Image.{Image, sector, written, piece, sectors_in, block_at}
@@ -26,7 +27,7 @@ with_block size I w = written I (first_sector size w.block) w.bytes
 
 -- a journal's dinode with JOURNAL_DIRTY clear, the lowest bit of ij_flags
 unfoldable pub as_clean : List ℕ → List ℕ
-as_clean dinode = put_at 0xb8 4 (number_at 0xb8 4 dinode - number_at 0xb8 4 dinode % 2) dinode
+as_clean dinode = put_at journal_flags_place 4 (number_at journal_flags_place 4 dinode - number_at journal_flags_place 4 dinode % 2) dinode
 
 abbrev pub with_clean_journal : ℕ → Image → ℕ → Image
 with_clean_journal size I b = with_block size I (record { block = b; bytes = as_clean (block_at size I b) })

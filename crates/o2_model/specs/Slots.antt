@@ -1,6 +1,7 @@
 -- What a slot holds of the volume's clusters: the window of its local alloc, and the records of its truncate log.
 use Rattle.std.specs.Prelude.{ℕ, ◌+◌, ◌-◌, ◌*◌, ◌/◌, ◌%◌, ◌^◌, Bool, ◌&&◌, ◌||◌, not, ◌==◌, nat_lt, nat_le, List, [], map, filter, drop, count_by, if◌then◌else◌}
 use Rattle.std.specs.List.{range_with_len, list_any}
+use Rattle.o2_ondisk.specs.Dinodes.{last_part_place, window_bitmap_place, truncate_records_place}
 use Rattle.o2_ondisk.specs.LocalAllocHeaders.{local_alloc_header_of}
 use Rattle.o2_ondisk.specs.TruncateLogHeaders.{truncate_log_header_of}
 use Rattle.o2_ondisk.specs.TruncateRecs.{truncate_rec_of}
@@ -23,7 +24,7 @@ total_of d = d.0 / 2 ^ 32
 -- ---- the window of a local alloc
 -- the header of the window (id2.i_lab of struct ocfs2_dinode)
 abbrev pub window : Volume → ℕ → LocalAllocHeader
-window v b = local_alloc_header_of (drop 0xc0 (v.at b))
+window v b = local_alloc_header_of (drop last_part_place (v.at b))
 
 -- how many clusters the window has, and how many of them are in use
 abbrev pub window_total : Volume → ℕ → ℕ
@@ -34,7 +35,7 @@ window_used v b = used_of (dinode v b).role_data
 
 -- bit k of the window (la_bitmap)
 abbrev pub is_window_bit_set : Volume → ℕ → ℕ → Bool
-is_window_bit_set v b k = is_bit_set_in 0xd0 (v.at b) k
+is_window_bit_set v b k = is_bit_set_in window_bitmap_place (v.at b) k
 
 -- the clusters of its clear bits
 unfoldable pub window_clusters : Volume → ℕ → List ℕ
@@ -46,7 +47,7 @@ are_clusters_of v first count = nat_lt 0 first && nat_le (first + count) v.geo.c
 
 -- the bitmap fits the dinode (ocfs2_local_alloc_size)
 abbrev pub is_sound_window_size : Volume → ℕ → Bool
-is_sound_window_size v b = nat_le (window v b).size (block_size v - 208)
+is_sound_window_size v b = nat_le (window v b).size (block_size v - window_bitmap_place)
 
 -- The window holds, where these clusters have an earlier claim: its bitmap fits, and where it has clusters they are the
 -- volume's, i_used is the number of its set bits, and no cluster of a clear bit is claimed.
@@ -62,17 +63,17 @@ is_sound_window v claimed b =
 -- ---- the records of a truncate log
 -- the header of the log (id2.i_dealloc of struct ocfs2_dinode)
 abbrev pub truncate_log : Volume → ℕ → TruncateLogHeader
-truncate_log v b = truncate_log_header_of (drop 0xc0 (v.at b))
+truncate_log v b = truncate_log_header_of (drop last_part_place (v.at b))
 
 -- tl_used fits tl_count, and tl_count fits the dinode (ocfs2_truncate_recs_per_inode)
 unfoldable pub is_sound_truncate_header : Volume → ℕ → Bool
 is_sound_truncate_header v b =
     nat_le (truncate_log v b).used (truncate_log v b).count
-    && nat_le (truncate_log v b).count ((block_size v - 200) / 8)
+    && nat_le (truncate_log v b).count ((block_size v - truncate_records_place) / 8)
 
 -- its records in use; a log with an unsound header has none
 unfoldable pub truncate_records : Volume → ℕ → List TruncateRec
-truncate_records v b = if is_sound_truncate_header v b then table truncate_rec_of 8 0xc8 (truncate_log v b).used (v.at b) else []
+truncate_records v b = if is_sound_truncate_header v b then table truncate_rec_of 8 truncate_records_place (truncate_log v b).used (v.at b) else []
 
 -- the clusters of a record; a void one has none
 unfoldable pub truncated_clusters : TruncateRec → List ℕ

@@ -1,14 +1,14 @@
 -- SUPER, number 1, at block 2: the super's numbers fit one another and the device.
 use Rattle.std.specs.Prelude.{ℕ, ◌%◌, Bool, ◌&&◌, not, ◌==◌, nat_lt, nat_le, List}
-use Rattle.o2_ondisk.specs.Bits.{has_bits}
+use Rattle.o2_ondisk.specs.Bits.{has_bits, valid_inode_flag}
 use Rattle.o2_model.specs.Words.{among, fails_unless}
-use Rattle.o2_model.specs.Volume.{Volume, blocks, per_cluster, is_in_range, dinode, valid_flag}
+use Rattle.o2_model.specs.Volume.{Volume, blocks, per_cluster, is_in_range, dinode}
 use Rattle.o2_model.specs.Clusters.{cluster_of}
 use Rattle.o2_model.specs.ClusterGroups.{group_size, backup_clusters}
 
 -- block 2 is a dinode in use that names its own block
 abbrev pub is_super_dinode : Volume → Bool
-is_super_dinode v = (dinode v 2).blkno == 2 && has_bits (dinode v 2).flags.0 valid_flag
+is_super_dinode v = (dinode v 2).blkno == 2 && has_bits (dinode v 2).flags.0 valid_inode_flag
 
 -- a cluster has 4 KiB to 1 MiB, and there are slots, at most 255 (OCFS2_MAX_SLOTS)
 abbrev pub has_sound_sizes : Volume → Bool
