@@ -1,5 +1,5 @@
 -- ALLOC_TOTALS, number 46, at the allocator: i_total is the sum of c_total over its chains, and i_used is that less the sum of
--- c_free, both modulo 2^32.
+-- c_free.
 use Rattle.std.specs.Prelude.{ℕ, ◌+◌, ◌%◌, ◌^◌, Bool, ◌&&◌, ◌==◌, List, sum_by}
 use Rattle.o2_model.specs.declared.allocator.Allocator.{Allocator}
 use Rattle.o2_model.specs.Words.{fails_at}

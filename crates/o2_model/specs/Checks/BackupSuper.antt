@@ -1,4 +1,5 @@
--- BACKUP_SUPER, number 40, at the backup: what it says of the volume is what the superblock says.
+-- BACKUP_SUPER, number 40, at the backup: its signature, generation, clusters, features, root, system directory, first group,
+-- sizes, slots, label and identifier are those of the superblock.
 use Rattle.std.specs.Prelude.{ℕ, ◌*◌, Bool, ◌&&◌, ◌==◌, List, map, drop, bytes_eq}
 use Rattle.o2_ondisk.specs.Dinodes.{last_part_place}
 use Rattle.o2_ondisk.specs.Super.{super_of}

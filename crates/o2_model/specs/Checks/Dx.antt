@@ -1,4 +1,5 @@
--- DX, number 34, at the directory: its index is well formed, has its blocks and clusters for itself, and finds each entry.
+-- DX, number 34, at the directory: its index is well formed, has its blocks and clusters for itself, each block of the directory
+-- has its trailer, and entries and index entries agree in number, by block and by hash.
 use Rattle.std.specs.Prelude.{ℕ, Bool, List, filter}
 use Rattle.o2_model.specs.Words.{fails_at}
 use Rattle.o2_model.specs.Volume.{Volume}

@@ -1,4 +1,4 @@
--- INODE_ALLOC_BIT, number 11, at the group: bit 0 of a group of inodes is set, and each further set bit stands for an inode.
+-- INODE_ALLOC_BIT, number 11, at the group of inodes: bit 0 is set, and each further set bit stands for an inode.
 use Rattle.std.specs.Prelude.{ℕ, Bool, ◌&&◌, ◌||◌, not, List, filter}
 use Rattle.std.specs.List.{list_all}
 use Rattle.o2_model.specs.declared.allocator.Group.{Group}

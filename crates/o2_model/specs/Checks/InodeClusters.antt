@@ -1,5 +1,6 @@
--- INODE_CLUSTERS, number 35, at the inode: i_clusters is the number of its clusters. An inode without a list has 0, but that of
--- an allocator tells the clusters of its groups. A local alloc and a truncate log are not asked.
+-- INODE_CLUSTERS, number 35, at the inode: i_clusters is the number of the clusters of its records; of the global bitmap all of
+-- the volume's, of another allocator those of its groups, of an inode without a list 0; a local alloc and a truncate log are not
+-- asked.
 use Rattle.std.specs.Prelude.{ℕ, ◌+◌, ◌/◌, ◌%◌, ◌^◌, Bool, ◌||◌, ◌==◌, List, sum_by, find, if◌then◌else◌}
 use Rattle.std.specs.Option.{option_map_or}
 use Rattle.o2_ondisk.specs.Bits.{has_bits, local_alloc_inode_flag, dealloc_inode_flag}

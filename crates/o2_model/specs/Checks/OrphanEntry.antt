@@ -1,5 +1,5 @@
--- ORPHAN_ENTRY, number 28, at the directory block of the entry: each entry of an orphan directory but the dots names an inode
--- with `OCFS2_ORPHANED_FL` that is not the volume's own, and no inode is named again.
+-- ORPHAN_ENTRY, number 28, at the orphan directory's block: each live entry but the dots names an inode with `OCFS2_ORPHANED_FL`
+-- that is not the volume's own, and over all slots no inode is named again.
 use Rattle.std.specs.Prelude.{ℕ, Bool, ◌&&◌, not, ◌==◌, List, [], ◌++◌, map, flat_map}
 use Rattle.std.specs.Option.{option_map_or}
 use Rattle.o2_model.specs.declared.system_file.SlotFile.TheVariants.{OrphanDir}

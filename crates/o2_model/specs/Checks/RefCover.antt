@@ -1,4 +1,4 @@
--- REF_COVER, number 31, at the root: the records of the tree have just the clusters under refcounted records of its inodes, and
+-- REF_COVER, number 31, at the root of the tree: its records have just the clusters under refcounted records of its inodes, and
 -- those of one record are all referred to equally often.
 use Rattle.std.specs.Prelude.{ℕ, Bool, ◌&&◌, ◌==◌, nat_lt, List, flat_map, filter}
 use Rattle.std.specs.List.{range_with_len, list_all, list_any}

@@ -1,4 +1,4 @@
--- REF_USERS, number 33, at the root: rf_count is the number of the tree's inodes.
+-- REF_USERS, number 33, at the root of the tree: rf_count is the number of the tree's inodes.
 use Rattle.std.specs.Prelude.{ℕ, ◌%◌, ◌^◌, ◌==◌, List, filter, length}
 use Rattle.o2_model.specs.Words.{fails_at}
 use Rattle.o2_model.specs.Volume.{Volume}

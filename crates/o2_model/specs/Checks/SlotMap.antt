@@ -1,4 +1,5 @@
--- SLOT_MAP, number 7, at the slot map: its clusters follow one another from its cluster 0 on, and hold an entry for each slot.
+-- SLOT_MAP, number 7, at the slot map: EXTENT holds; its clusters follow one another from its cluster 0 on, have no flags, and
+-- have room for an entry of each slot.
 use Rattle.std.specs.Prelude.{ℕ, ◌*◌, Bool, ◌&&◌, nat_le, List, [], sum_by, if◌then◌else◌}
 use Rattle.std.specs.Option.{option_map_or}
 use Rattle.o2_ondisk.specs.Bits.{has_bits, extended_slot_map_feature}

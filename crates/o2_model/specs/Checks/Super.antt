@@ -1,4 +1,6 @@
--- SUPER, number 1, at block 2: the super's numbers fit one another and the device.
+-- SUPER, number 1, at block 2: it names its own block and is in use; a cluster has 4 KiB to 1 MiB; there are 1 to 255 slots; the
+-- first group descriptor begins a cluster of the first group and of the volume, behind the superblock and in no backup; the
+-- device has all blocks; the root and the system directory are two blocks of the volume.
 use Rattle.std.specs.Prelude.{ℕ, ◌%◌, Bool, ◌&&◌, not, ◌==◌, nat_lt, nat_le, List}
 use Rattle.o2_ondisk.specs.Bits.{has_bits, valid_inode_flag}
 use Rattle.o2_model.specs.Words.{among, fails_unless}

@@ -1,5 +1,7 @@
--- SYSFILE, number 3, at the inode that an entry of the system directory names, else at the system directory: the volume's own
--- files are there, are what their names say, and stand on bits of inode allocators.
+-- SYSFILE, number 3, at the inode that the entry names; for what is missing, the system directory: no required file is missing;
+-- each entry but the dots names an inode on a bit, of the kind and with the flags of its name, neither the root nor the system
+-- directory, and no inode is named twice; no name is of a slot that there is not; no file of a slot shares clusters; the root and
+-- the system directory stand on bits.
 use Rattle.std.specs.Prelude.{ℕ, Bool, true, false, ◌&&◌, ◌||◌, not, ◌==◌, nat_le, List, ◌++◌, map, is_some, if◌then◌else◌}
 use Rattle.std.specs.List.{list_any, list_all}
 use Rattle.std.specs.Option.{option_map_or}

@@ -1,4 +1,5 @@
--- TRUNCATE_LOG, number 39, at the dinode: the log of the slot fits, and the clusters of its records are free and stand there once.
+-- TRUNCATE_LOG, number 39, at the dinode of the truncate log: the counts fit the dinode; each record is void, or its clusters are
+-- in range, and no earlier claim or record has one of them.
 use Rattle.std.specs.Prelude.{ℕ, Bool, true, ◌&&◌, List, [], ◌∷◌, flat_map}
 use Rattle.std.specs.Option.{option_map_or}
 use Rattle.o2_ondisk.specs.declared.truncate_rec.TruncateRec.{TruncateRec}
