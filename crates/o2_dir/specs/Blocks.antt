@@ -4,7 +4,7 @@ use Rattle.std.specs.List.{range_with_len}
 use Rattle.o2_ondisk.specs.Bits.{has_bits, unwritten_extent_flag}
 use Rattle.o2_ondisk.specs.Dinodes.{inline_data_place}
 use Rattle.o2_model.specs.Volume.{Volume}
-use Rattle.o2_model.specs.Words.{fails_at}
+use Rattle.o2_model.specs.Faults.{fails_at}
 use Rattle.o2_model.specs.Directories.{DirBlock, entries_in, entries_of_block, entry_at_front, has_entry, is_live}
 use Rattle.o2_model.specs.Checks.DirBlock.{is_sound_dir_block}
 use Rattle.o2_extent.specs.declared.leaf.Leaf.{Leaf}

@@ -1,5 +1,5 @@
 -- The allocators of a volume, and their chains.
-use Rattle.std.specs.Prelude.{ℕ, ◌*◌, ◌-◌, ◌/◌, Bool, true, false, ◌&&◌, ◌==◌, nat_le, List, [], ◌∷◌, ◌++◌, map, flat_map, drop, if◌then◌else◌}
+use Rattle.std.specs.Prelude.{ℕ, ◌*◌, ◌-◌, ◌/◌, ◌%◌, ◌^◌, Bool, true, false, ◌&&◌, ◌==◌, nat_le, List, [], ◌∷◌, ◌++◌, map, flat_map, drop, if◌then◌else◌}
 use Rattle.std.specs.Option.{option_map_or}
 use Rattle.o2_ondisk.specs.Bits.{has_bits, chain_inode_flag}
 use Rattle.o2_ondisk.specs.ChainListHeaders.{chain_list_header_of}
@@ -7,6 +7,7 @@ use Rattle.o2_ondisk.specs.ChainRecs.{chain_rec_of}
 use Rattle.o2_ondisk.specs.Dinodes.{last_part_place, list_records_place}
 use Rattle.o2_ondisk.specs.declared.chain_list_header.ChainListHeader.{ChainListHeader}
 use Rattle.o2_ondisk.specs.declared.chain_rec.ChainRec.{ChainRec}
+use Rattle.o2_ondisk.specs.declared.role_data.RoleData.{RoleData}
 use Rattle.o2_model.specs.declared.allocator.Allocator.{Allocator}
 use Rattle.o2_model.specs.declared.allocator.BitUse.{BitUse}
 use Rattle.o2_model.specs.declared.allocator.BitUse.TheVariants.{Clusters, Inodes, Metadata}
@@ -91,3 +92,11 @@ chains v a =
 -- the blocks of the groups at which its chains begin
 unfoldable pub chain_heads : Volume → Allocator → List ℕ
 chain_heads v a = map (λ r. r.blkno) (chains v a)
+
+-- ---- totals of an allocator or a window
+-- i_used and i_total of id1.bitmap1 of struct ocfs2_dinode
+abbrev pub used_of : RoleData → ℕ
+used_of d = d.0 % 2 ^ 32
+
+abbrev pub total_of : RoleData → ℕ
+total_of d = d.0 / 2 ^ 32

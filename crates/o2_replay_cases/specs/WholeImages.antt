@@ -9,7 +9,8 @@ use Rattle.o2_model.specs.Features.{unsupported_in}
 use Rattle.o2_model.specs.Geometry.{geometry_in_block}
 use Rattle.o2_model.specs.Anchors.{anchors_of, log_fault}
 use Rattle.o2_model.specs.Dirty.{committed_writes, dirty_slots, journal_fault, slot_journal}
-use Rattle.o2_model.specs.Replay.{as_clean, dirty_journals}
+use Rattle.o2_model.specs.Replay.{as_clean}
+use Rattle.o2_model.specs.TornReplays.{dirty_journals}
 use Rattle.o2_model.specs.Checks.Super.{super_faults}
 use Rattle.o2_model.specs.Checks.Sysdir.{sysdir_faults}
 use Rattle.o2_cases_volumes.specs.DirtyVolume.{logging_block, replayed_block, stopped_block}

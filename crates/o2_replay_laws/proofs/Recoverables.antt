@@ -10,7 +10,7 @@ use Rattle.o2_model.specs.Checks.Sysdir.{sysdir_faults}
 use Rattle.o2_model.specs.Consistent.{IsConsistent}
 use Rattle.o2_model.specs.Dirty.{dirty_slots, journal_fault}
 use Rattle.o2_model.specs.Failing.{faults, failing}
-use Rattle.o2_model.specs.Replay.{AreAnchorsApart, IsReplayable, IsReplayStable, IsRecoverable}
+use Rattle.o2_model.specs.Recoverable.{AreAnchorsApart, IsReplayable, IsReplayStable, IsRecoverable}
 use Rattle.o2_laws.proofs.NothingFails.{no_check_fails}
 use Rattle.o2_laws.proofs.NothingDirty.{consistent_clean, consistent_replayed}
 use Rattle.o2_replay_laws.proofs.Replays.{no_variant}

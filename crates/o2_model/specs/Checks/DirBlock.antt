@@ -2,7 +2,7 @@
 -- named `.` and `..`.
 use Rattle.std.specs.Prelude.{ℕ, Bool, false, ◌&&◌, ◌||◌, not, ◌==◌, List, ◌∷◌, codes, bytes_eq}
 use Rattle.std.specs.Option.{option_map_or}
-use Rattle.o2_model.specs.Words.{fails_at}
+use Rattle.o2_model.specs.Faults.{fails_at}
 use Rattle.o2_model.specs.Volume.{Volume}
 use Rattle.o2_model.specs.Directories.{NamedEntry, is_live, DirBlock, dir_blocks}
 

@@ -1,7 +1,7 @@
 -- DIRENT_INODE, number 24, at the directory's block: in the tree live entries but the dots name inodes without `OCFS2_SYSTEM_FL`
 -- that are not the volume's own.
 use Rattle.std.specs.Prelude.{ℕ, List, flat_map}
-use Rattle.o2_model.specs.Words.{fails_at}
+use Rattle.o2_model.specs.Faults.{fails_at}
 use Rattle.o2_model.specs.Volume.{Volume}
 use Rattle.o2_model.specs.Directories.{named_entries}
 use Rattle.o2_model.specs.Tree.{names_users, tree_directories}

@@ -2,7 +2,7 @@
 use Rattle.std.specs.Prelude.{ℕ, Bool, false, ◌==◌, List, filter}
 use Rattle.std.specs.Option.{option_map_or}
 use Rattle.o2_ondisk.specs.Kinds.{type_of_kind}
-use Rattle.o2_model.specs.Words.{fails_at}
+use Rattle.o2_model.specs.Faults.{fails_at}
 use Rattle.o2_model.specs.Volume.{Volume}
 use Rattle.o2_model.specs.Inodes.{kind}
 use Rattle.o2_model.specs.Directories.{Entry}

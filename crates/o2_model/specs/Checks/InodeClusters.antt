@@ -5,7 +5,7 @@ use Rattle.std.specs.Prelude.{ℕ, ◌+◌, ◌/◌, ◌%◌, ◌^◌, Bool, ◌
 use Rattle.std.specs.Option.{option_map_or}
 use Rattle.o2_ondisk.specs.Bits.{has_bits, local_alloc_inode_flag, dealloc_inode_flag}
 use Rattle.o2_model.specs.declared.allocator.Allocator.{Allocator}
-use Rattle.o2_model.specs.Words.{fails_unless}
+use Rattle.o2_model.specs.Faults.{fails_unless}
 use Rattle.o2_model.specs.Volume.{Volume, per_cluster, dinode}
 use Rattle.o2_model.specs.Extents.{leaf_clusters}
 use Rattle.o2_model.specs.Inodes.{leaf_records}

@@ -7,7 +7,8 @@ use Rattle.o2_ondisk.specs.Dinodes.{last_part_place}
 use Rattle.o2_ondisk.specs.Number.{number_at}
 use Rattle.o2_ondisk.specs.declared.kind.Kind.{Kind}
 use Rattle.o2_ondisk.specs.declared.kind.Kind.TheVariants.{File, Directory, Link}
-use Rattle.o2_model.specs.Words.{among, fails_unless}
+use Rattle.o2_model.specs.Words.{among}
+use Rattle.o2_model.specs.Faults.{fails_unless}
 use Rattle.o2_model.specs.Volume.{Volume, block_size, dinode}
 use Rattle.o2_model.specs.Clusters.{cluster_size}
 use Rattle.o2_model.specs.Inodes.{kind, is_inline, is_fast_link, leaf_records}

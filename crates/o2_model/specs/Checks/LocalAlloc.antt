@@ -4,10 +4,10 @@ use Rattle.std.specs.Prelude.{ℕ, List, [], flat_map}
 use Rattle.std.specs.Option.{option_map_or}
 use Rattle.o2_model.specs.declared.system_file.SlotFile.TheVariants.{LocalAlloc}
 use Rattle.o2_model.specs.declared.system_file.SystemFile.TheVariants.{OfSlot}
-use Rattle.o2_model.specs.Words.{fails_unless}
+use Rattle.o2_model.specs.Faults.{fails_unless}
 use Rattle.o2_model.specs.Volume.{Volume}
 use Rattle.o2_model.specs.SystemFiles.{system_inode, slots}
-use Rattle.o2_model.specs.Slots.{is_sound_window}
+use Rattle.o2_model.specs.Windows.{is_sound_window}
 use Rattle.o2_model.specs.Claims.{claims_with_windows, claimed_clusters}
 
 -- that of one slot

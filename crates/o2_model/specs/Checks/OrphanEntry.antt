@@ -4,7 +4,8 @@ use Rattle.std.specs.Prelude.{ℕ, Bool, ◌&&◌, not, ◌==◌, List, [], ◌+
 use Rattle.std.specs.Option.{option_map_or}
 use Rattle.o2_model.specs.declared.system_file.SlotFile.TheVariants.{OrphanDir}
 use Rattle.o2_model.specs.declared.system_file.SystemFile.TheVariants.{OfSlot}
-use Rattle.o2_model.specs.Words.{among, fails_at}
+use Rattle.o2_model.specs.Words.{among}
+use Rattle.o2_model.specs.Faults.{fails_at}
 use Rattle.o2_model.specs.Orders.{later_like}
 use Rattle.o2_model.specs.Volume.{Volume}
 use Rattle.o2_model.specs.Directories.{Entry, named_entries, own_inodes}

@@ -2,7 +2,7 @@
 -- refcount blocks of this volume with lists that fit; records rise without overlap, have clusters in range, and are referred to.
 use Rattle.std.specs.Prelude.{ℕ, Bool, ◌&&◌, List, ◌++◌, flat_map, filter}
 use Rattle.std.specs.List.{list_any}
-use Rattle.o2_model.specs.Words.{fails_at, fails_unless}
+use Rattle.o2_model.specs.Faults.{fails_at, fails_unless}
 use Rattle.o2_model.specs.Orders.{is_none_of}
 use Rattle.o2_model.specs.Volume.{Volume, is_in_range, dinode}
 use Rattle.o2_model.specs.Inodes.{records_of}

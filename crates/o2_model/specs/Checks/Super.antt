@@ -3,7 +3,8 @@
 -- device has all blocks; the root and the system directory are two blocks of the volume.
 use Rattle.std.specs.Prelude.{ℕ, ◌%◌, Bool, ◌&&◌, not, ◌==◌, nat_lt, nat_le, List}
 use Rattle.o2_ondisk.specs.Bits.{has_bits, valid_inode_flag}
-use Rattle.o2_model.specs.Words.{among, fails_unless}
+use Rattle.o2_model.specs.Words.{among}
+use Rattle.o2_model.specs.Faults.{fails_unless}
 use Rattle.o2_model.specs.Volume.{Volume, blocks, per_cluster, is_in_range, dinode}
 use Rattle.o2_model.specs.Clusters.{cluster_of}
 use Rattle.o2_model.specs.ClusterGroups.{group_size, backup_clusters}

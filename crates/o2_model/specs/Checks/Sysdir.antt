@@ -2,7 +2,7 @@
 -- DIRENT_NAME and DIRENT_DUP hold.
 use Rattle.std.specs.Prelude.{ℕ, Bool, ◌&&◌, List, ◌++◌}
 use Rattle.o2_model.specs.Orders.{is_none_of}
-use Rattle.o2_model.specs.Words.{fails_unless}
+use Rattle.o2_model.specs.Faults.{fails_unless}
 use Rattle.o2_model.specs.Volume.{Volume, is_valid}
 use Rattle.o2_model.specs.Inodes.{is_directory}
 use Rattle.o2_model.specs.Checks.Extent.{extent_faults}

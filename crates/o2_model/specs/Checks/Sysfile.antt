@@ -12,7 +12,7 @@ use Rattle.o2_model.specs.declared.system_file.SlotFile.{SlotFile}
 use Rattle.o2_model.specs.declared.system_file.SlotFile.TheVariants.{OrphanDir, ExtentAlloc, InodeAlloc, Journal, LocalAlloc, TruncateLog}
 use Rattle.o2_model.specs.declared.system_file.SystemFile.{SystemFile}
 use Rattle.o2_model.specs.declared.system_file.SystemFile.TheVariants.{GlobalInodeAlloc, GlobalBitmap}
-use Rattle.o2_model.specs.Words.{fails_unless, fails_at}
+use Rattle.o2_model.specs.Faults.{fails_unless, fails_at}
 use Rattle.o2_model.specs.Orders.{later_like}
 use Rattle.o2_model.specs.Volume.{Volume, dinode}
 use Rattle.o2_model.specs.Inodes.{is_directory, is_file}

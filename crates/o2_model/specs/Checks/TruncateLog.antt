@@ -6,10 +6,10 @@ use Rattle.o2_ondisk.specs.declared.truncate_rec.TruncateRec.{TruncateRec}
 use Rattle.o2_model.specs.declared.claim.Claim.{Claim}
 use Rattle.o2_model.specs.declared.system_file.SlotFile.TheVariants.{TruncateLog}
 use Rattle.o2_model.specs.declared.system_file.SystemFile.TheVariants.{OfSlot}
-use Rattle.o2_model.specs.Words.{fails_unless}
+use Rattle.o2_model.specs.Faults.{fails_unless}
 use Rattle.o2_model.specs.Volume.{Volume}
 use Rattle.o2_model.specs.SystemFiles.{system_inode, slots}
-use Rattle.o2_model.specs.Slots.{is_sound_truncate_header, truncate_records, is_sound_truncation}
+use Rattle.o2_model.specs.TruncateLogs.{is_sound_truncate_header, truncate_records, is_sound_truncation}
 use Rattle.o2_model.specs.Claims.{claims_with_truncations, with_truncation, claimed_clusters}
 
 -- each record holds behind these claims and the records before it

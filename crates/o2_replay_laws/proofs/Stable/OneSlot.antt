@@ -4,7 +4,7 @@ use Rattle.std.specs.Prelude.{filter, nat_lt, option_and_then}
 use Rattle.std.specs.List.{Contains, range_with_len}
 use Rattle.std.specs.Option.{option_map_or}
 use Rattle.o2_model.specs.declared.journal_part.JournalPart.{JournalPart}
-use Rattle.o2_model.specs.Words.{fails_unless}
+use Rattle.o2_model.specs.Faults.{fails_unless}
 use Rattle.o2_model.specs.Orders.{first_of, from_to}
 use Rattle.o2_laws.proofs.Found.{range_bounds}
 use Rattle.o2_laws.proofs.Members.{contains_cases, contains_filter}
