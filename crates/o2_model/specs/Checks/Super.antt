@@ -38,13 +38,16 @@ has_sound_directories v =
     && is_in_range v v.geo.sysdir
     && not (v.geo.root == v.geo.sysdir)
 
-unfoldable pub is_sound_super : Volume → Bool
-is_sound_super v =
-    is_super_dinode v
-    && has_sound_sizes v
+-- the numbers fit one another and the device
+abbrev pub has_sound_numbers : Volume → Bool
+has_sound_numbers v =
+    has_sound_sizes v
     && has_sound_first_group v
     && nat_le (blocks v) v.on_device
     && has_sound_directories v
+
+unfoldable pub is_sound_super : Volume → Bool
+is_sound_super v = is_super_dinode v && has_sound_numbers v
 
 abbrev pub super_faults : Volume → List ℕ
 super_faults v = fails_unless 2 (is_sound_super v)
