@@ -2,7 +2,7 @@
 use Rattle.std.proofs.Common.{◌≡◌, inl, inr, ℕ, zero, suc, ◌<◌, Bool, true, false, ◌&&◌, ◌||◌, not, List, [], ◌∷◌, ◌++◌, map, filter, get_or, length, bytes_eq, refl, sym, ◌∙◌, ap, arith}
 use Rattle.std.proofs.lemmas.Bool.{cases_Bool}
 use Rattle.o2_model.specs.Orders.{later_like, is_none_of}
-use Rattle.o2_model.specs.Words.{those_not}
+use Rattle.o2_model.specs.Faults.{those_not}
 use Rattle.o2_model.specs.Directories.{Entry as Live, is_dot}
 use Rattle.o2_model.specs.Checks.DirentName.{is_sound_name}
 use Rattle.o2_model.specs.Checks.DirentDup.{are_namesakes}

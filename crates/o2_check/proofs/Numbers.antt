@@ -6,10 +6,10 @@ use Rattle.o2_disk.specs.Image.{Image}
 use Rattle.o2_model.specs.Words.{among}
 use Rattle.o2_model.specs.Volume.{Volume, per_cluster, blocks}
 use Rattle.o2_model.specs.ClusterGroups.{group_size, backup_clusters}
-use Rattle.o2_model.specs.Checks.Super.{has_sound_sizes, has_sound_first_group, has_sound_directories}
+use Rattle.o2_model.specs.Checks.Super.{has_sound_sizes, has_sound_first_group, has_sound_directories, has_sound_numbers}
 use Rattle.o2_model.specs.declared.geo.Geo.{Geo}
 use Rattle.o2_extent.specs.Seen.{HasSizes, volume_seen}
-use Rattle.o2_check.specs.Numbers.{is_place, are_sound, AreWithin}
+use Rattle.o2_check.specs.Numbers.{is_place, AreWithin}
 use Rattle.o2_check.proofs.Tests.{true_and}
 
 -- ---- the first group
@@ -26,10 +26,10 @@ place_decides v pc size pc_is size_is is =
     ∙ ap (λ n. not (among (backup_clusters v) (v.geo.first_group / n))) (sym pc_is)
 
 -- ---- all numbers
-pub bad_sizes : (v : Volume) → has_sound_sizes v ≡ false → are_sound v ≡ false
+pub bad_sizes : (v : Volume) → has_sound_sizes v ≡ false → has_sound_numbers v ≡ false
 bad_sizes v bad = and_left _ _ (and_left _ _ (and_left _ _ bad))
 
-pub bad_first_group : (v : Volume) → has_sound_first_group v ≡ false → are_sound v ≡ false
+pub bad_first_group : (v : Volume) → has_sound_first_group v ≡ false → has_sound_numbers v ≡ false
 bad_first_group v bad = and_left _ _ (and_left _ _ (and_right _ _ bad))
 
 too_long : (n m : ℕ) → m < n → nat_le n m ≡ false
@@ -38,14 +38,14 @@ too_long n m past = grind (arith, nat_tests)
 short_enough : (n m : ℕ) → n ≤ m → nat_le n m ≡ true
 short_enough n m fits = grind (arith, nat_tests)
 
-pub bad_length : (v : Volume) (count n : ℕ) → count ≡ v.on_device → n ≡ blocks v → count < n → are_sound v ≡ false
+pub bad_length : (v : Volume) (count n : ℕ) → count ≡ v.on_device → n ≡ blocks v → count < n → has_sound_numbers v ≡ false
 bad_length v count n count_is n_is past = and_left _ _ (and_right _ _ (too_long (blocks v) v.on_device (omega (arith, count_is, n_is, past))))
 
 last_of_four : (a b c d : Bool) → a ≡ true → b ≡ true → c ≡ true → (a && b && c && d) ≡ d
 last_of_four a b c d is_a is_b is_c = rw (is_a, is_b, is_c) refl
 
 pub directories_decide : (v : Volume) (count n : ℕ) → has_sound_sizes v ≡ true → has_sound_first_group v ≡ true → count ≡ v.on_device → n ≡ blocks v → n ≤ count
-    → are_sound v ≡ has_sound_directories v
+    → has_sound_numbers v ≡ has_sound_directories v
 directories_decide v count n sizes first count_is n_is fits =
     last_of_four _ _ _ _ sizes first (short_enough (blocks v) v.on_device (omega (arith, count_is, n_is, fits)))
 

@@ -2,7 +2,8 @@
 use Rattle.std.proofs.Common.{◌≡◌, ℕ, ◌≤◌, Bool, true, false, ◌&&◌, [], refl, ◌∙◌, subst, arith}
 use Rattle.std.proofs.lemmas.Bool.{and_left, or_left, eq-eqb}
 use Rattle.std.proofs.lemmas.List.Elements.{All-push}
-use Rattle.o2_model.specs.Words.{IsLeast, fails_unless}
+use Rattle.o2_model.specs.Words.{IsLeast}
+use Rattle.o2_model.specs.Faults.{fails_unless}
 use Rattle.o2_model.specs.Orders.{is_none_of}
 use Rattle.o2_model.specs.Volume.{Volume, is_valid}
 use Rattle.o2_model.specs.Inodes.{is_directory}

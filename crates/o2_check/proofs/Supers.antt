@@ -1,20 +1,13 @@
 -- SUPER, as its parts decide it.
-use Rattle.std.proofs.Common.{◌≡◌, Bool, true, false, ◌&&◌, nat_le, refl, ◌∙◌, ap}
-use Rattle.o2_model.specs.Volume.{Volume, blocks}
-use Rattle.o2_model.specs.Checks.Super.{is_super_dinode, has_sound_sizes, has_sound_first_group, has_sound_directories, is_sound_super}
-use Rattle.o2_check.specs.Numbers.{are_sound}
+use Rattle.std.proofs.Common.{◌≡◌, Bool, true, false, ◌&&◌, ◌∙◌, ap}
+use Rattle.o2_model.specs.Volume.{Volume}
+use Rattle.o2_model.specs.Checks.Super.{is_super_dinode, has_sound_numbers, is_sound_super}
 use Rattle.o2_check.proofs.Tests.{and_true, and_false}
 
-regroup : (a b c d e : Bool) → (a && b && c && d && e) ≡ (a && (b && c && d && e))
-regroup true b c d e = refl
-regroup false b c d e = refl
-
-pub parts_are : (v : Volume) → is_sound_super v ≡ (is_super_dinode v && are_sound v)
+pub bad_numbers : (v : Volume) → has_sound_numbers v ≡ false → is_sound_super v ≡ false
 unfolding is_sound_super
-parts_are v = regroup (is_super_dinode v) (has_sound_sizes v) (has_sound_first_group v) (nat_le (blocks v) v.on_device) (has_sound_directories v)
+bad_numbers v bad = ap (λ (b : Bool). is_super_dinode v && b) bad ∙ and_false (is_super_dinode v)
 
-pub bad_numbers : (v : Volume) → are_sound v ≡ false → is_sound_super v ≡ false
-bad_numbers v bad = parts_are v ∙ (ap (λ (b : Bool). is_super_dinode v && b) bad ∙ and_false (is_super_dinode v))
-
-pub good_numbers : (v : Volume) → are_sound v ≡ true → is_sound_super v ≡ is_super_dinode v
-good_numbers v good = parts_are v ∙ (ap (λ (b : Bool). is_super_dinode v && b) good ∙ and_true (is_super_dinode v))
+pub good_numbers : (v : Volume) → has_sound_numbers v ≡ true → is_sound_super v ≡ is_super_dinode v
+unfolding is_sound_super
+good_numbers v good = ap (λ (b : Bool). is_super_dinode v && b) good ∙ and_true (is_super_dinode v)

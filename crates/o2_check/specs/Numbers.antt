@@ -1,7 +1,5 @@
 -- What SUPER asks of the numbers alone, and what a reader of the volume is given by it.
 use Rattle.std.specs.Prelude.{ℕ, ◌-◌, ◌*◌, ◌/◌, ◌%◌, ◌^◌, ◌<◌, ◌≤◌, Bool, ◌&&◌, ◌==◌, nat_lt, nat_le}
-use Rattle.o2_model.specs.Volume.{Volume, blocks}
-use Rattle.o2_model.specs.Checks.Super.{has_sound_sizes, has_sound_first_group, has_sound_directories}
 use Rattle.o2_model.specs.declared.geo.Geo.{Geo}
 use Rattle.o2_extent.specs.Seen.{HasSizes}
 
@@ -12,14 +10,6 @@ is_place pc size geo =
     && nat_le 3 geo.first_group
     && nat_lt (geo.first_group / pc) size
     && nat_lt (geo.first_group / pc) geo.clusters
-
--- the numbers fit one another and the device
-abbrev pub are_sound : Volume → Bool
-are_sound v =
-    has_sound_sizes v
-    && has_sound_first_group v
-    && nat_le (blocks v) v.on_device
-    && has_sound_directories v
 
 -- sizes that a volume can have, and the volume, its super, its root and its system directory are below this block
 pub record AreWithin (geo : Geo) (count : ℕ) : Type 0 where

@@ -1,7 +1,7 @@
 // The names of a directory's entries.
 ghost use Rattle.std.specs.Prelude.{◌≡◌, ◌||◌, ◌&&◌, ℕ, List, [], not, map, filter, bytes_eq, IfOk, OnOk};
 ghost use Rattle.o2_model.specs.Orders.{later_like, is_none_of};
-ghost use Rattle.o2_model.specs.Words.{those_not};
+ghost use Rattle.o2_model.specs.Faults.{those_not};
 ghost use Rattle.o2_model.specs.Directories.{is_dot};
 ghost use Rattle.o2_model.specs.Checks.DirentName.{is_sound_name as is_name_of_entry};
 ghost use Rattle.o2_model.specs.Checks.DirentDup.{are_namesakes};

@@ -4,9 +4,9 @@ ghost use Rattle.std.specs.List.{range_with_len};
 ghost use Rattle.o2_disk.specs.Image.{Image};
 ghost use Rattle.o2_model.specs.Words.{among};
 ghost use Rattle.o2_model.specs.ClusterGroups.{backup_clusters};
-ghost use Rattle.o2_model.specs.Checks.Super.{has_sound_sizes as are_sound_sizes, has_sound_first_group as is_sound_first_group, has_sound_directories as are_sound_directories};
+ghost use Rattle.o2_model.specs.Checks.Super.{has_sound_sizes as are_sound_sizes, has_sound_first_group as is_sound_first_group, has_sound_directories as are_sound_directories, has_sound_numbers};
 ghost use Rattle.o2_extent.specs.Seen.{HasSizes, volume_seen};
-ghost use Rattle.o2_check.specs.Numbers.{is_place, are_sound, AreWithin};
+ghost use Rattle.o2_check.specs.Numbers.{is_place, AreWithin};
 
 use o2_extent::{block_bytes, blocks_per_cluster, volume_blocks};
 use o2_model::Geo;
@@ -91,7 +91,7 @@ fn has_sound_directories(geo: &Geo) -> bool
 pub fn are_sound_numbers(geo: &Geo, on_device: u64) -> bool
     requires least { 9 ≤ geo.now.block_bits }
     requires most { geo.now.block_bits ≤ 12 }
-    ensures told { (I : Image) → on_device ≡ 512 * length I / 2 ^ geo.now.block_bits → result ≡ are_sound (volume_seen geo.now I) }
+    ensures told { (I : Image) → on_device ≡ 512 * length I / 2 ^ geo.now.block_bits → result ≡ has_sound_numbers (volume_seen geo.now I) }
     ensures within { result ≡ true → AreWithin geo.now on_device }
 {
     if !has_sound_sizes(geo) {

@@ -1,7 +1,7 @@
 -- What is wrong with an inode, by what its readers tell.
 use Rattle.std.proofs.Common.{◌≡◌, ◌≢◌, ℕ, Bool, true, false, List, [], length, refl, sym, ◌∙◌, ap, subst, ◌-◌, ◌||◌}
 use Rattle.std.specs.Prelude.{Option, Some, None, IsSome, ◌&&◌, nat_le, if◌then◌else◌, flat_map}
-use Rattle.o2_ondisk.specs.Bits.{has_bits}
+use Rattle.o2_ondisk.specs.Bits.{has_bits, inline_data_dyn_feature}
 use Rattle.o2_ondisk.specs.Number.{number_at}
 use Rattle.o2_ondisk.specs.Kinds.{kind_of_mode}
 use Rattle.o2_ondisk.specs.declared.dinode.Dinode.{Dinode}
@@ -10,7 +10,7 @@ use Rattle.o2_ondisk.specs.declared.kind.Kind.TheVariants as k
 use Rattle.o2_model.specs.declared.check.Check.{Check}
 use Rattle.o2_model.specs.declared.check.Check.TheVariants as checks
 use Rattle.o2_model.specs.Volume.{Volume, dinode, block_size, is_valid}
-use Rattle.o2_model.specs.Inodes.{kind, is_directory, is_directory_kind, is_file, is_file_kind, is_link, is_link_kind, has_data, inline_flag, holds_list, extent_lists_of}
+use Rattle.o2_model.specs.Inodes.{kind, is_directory, is_directory_kind, is_file, is_file_kind, is_link, is_link_kind, has_data, holds_list, extent_lists_of}
 use Rattle.o2_model.specs.Checks.Extent.{extent_faults}
 use Rattle.o2_model.specs.Checks.InodeSize.{has_sound_size, is_size_of_kind}
 use Rattle.o2_dir.specs.Fails.{FailsNone, FailsFirst}
@@ -95,7 +95,7 @@ lists_of_none v b none = rw none refl
 
 -- the test of the inline bytes
 abbrev pub rest_test : Dinode → List ℕ → Bool
-rest_test d bytes = if has_bits d.dyn_features.0 inline_flag then (nat_le d.size (number_at 0xc0 2 bytes) && nat_le (number_at 0xc0 2 bytes) (length bytes - 200)) else true
+rest_test d bytes = if has_bits d.dyn_features.0 inline_data_dyn_feature then (nat_le d.size (number_at 0xc0 2 bytes) && nat_le (number_at 0xc0 2 bytes) (length bytes - 200)) else true
 
 size_of_rest : (v : Volume) (b : ℕ) (bytes : List ℕ) → bytes ≡ v.at b → length bytes ≡ block_size v → is_directory_kind (kind v b) ≡ false → (is_file_kind (kind v b) || is_link_kind (kind v b)) ≡ false → rest_test (dinode v b) bytes ≡ has_sound_size v b
 unfolding has_sound_size

@@ -3,14 +3,14 @@ ghost use Rattle.std.specs.Prelude.{◌≡◌, ◌&&◌, ◌||◌, ◌-◌, ◌<
 ghost use Rattle.std.specs.Result.{IfErr};
 ghost use Rattle.o2_disk.specs.Image.{Image};
 ghost use Rattle.o2_disk.specs.Device.{Rose};
-ghost use Rattle.o2_ondisk.specs.Dinodes.{dinode_of};
+ghost use Rattle.o2_ondisk.specs.Dinodes.{dinode_of, last_part_place, inline_data_place};
 ghost use Rattle.o2_ondisk.specs.Kinds.{kind_of_mode};
-ghost use Rattle.o2_ondisk.specs.Bits.{has_bits};
+ghost use Rattle.o2_ondisk.specs.Bits.{has_bits, inline_data_dyn_feature};
 ghost use Rattle.o2_ondisk.specs.Number.{number_at};
 ghost use Rattle.o2_view.specs.Views.{view_state, view_blocks};
 ghost use Rattle.o2_model.specs.declared.check.Check.{Check};
 ghost use Rattle.o2_model.specs.Volume.{is_valid, dinode};
-ghost use Rattle.o2_model.specs.Inodes.{is_directory, is_directory_kind, is_file_kind, is_link_kind, inline_flag};
+ghost use Rattle.o2_model.specs.Inodes.{is_directory, is_directory_kind, is_file_kind, is_link_kind};
 ghost use Rattle.o2_model.specs.Checks.InodeSize.{has_sound_size};
 ghost use Rattle.o2_extent.specs.Seen.{LiesIn, volume_seen};
 ghost use Rattle.o2_extent.specs.Reads.{OnlyReads};
@@ -150,7 +150,7 @@ fn is_of_blocks(check: Check) -> bool
 /// Whether the size is sound of an inode that has no data but what may stand in the dinode of these bytes.
 fn has_sound_rest(bytes: &[u8], d: &Dinode) -> bool
     requires { 512 ≤ length bytes.now }
-    ensures { result ≡ (if has_bits d.now.dyn_features.0 inline_flag then (nat_le d.now.size (number_at 0xc0 2 bytes.now) && nat_le (number_at 0xc0 2 bytes.now) (length bytes.now - 200)) else true) }
+    ensures { result ≡ (if has_bits d.now.dyn_features.0 inline_data_dyn_feature then (nat_le d.now.size (number_at last_part_place 2 bytes.now) && nat_le (number_at last_part_place 2 bytes.now) (length bytes.now - inline_data_place)) else true) }
 {
     if !is_inline(d) {
         return true;

@@ -3,11 +3,11 @@ use Rattle.std.proofs.Common.{◌≡◌, ℕ, ◌-◌, ◌/◌, ◌^◌, ◌<◌
 use Rattle.std.specs.Prelude.{nat_le}
 use Rattle.std.proofs.lemmas.List.{append-nil}
 use Rattle.std.proofs.lemmas.Bool.Decides.{nat_tests}
-use Rattle.o2_ondisk.specs.Bits.{has_bits}
+use Rattle.o2_ondisk.specs.Bits.{has_bits, inline_data_dyn_feature}
 use Rattle.o2_ondisk.specs.Dinodes.{dinode_of}
 use Rattle.o2_ondisk.specs.declared.dinode.Dinode.{Dinode}
 use Rattle.o2_model.specs.Volume.{Volume, block_size, per_cluster, dinode}
-use Rattle.o2_model.specs.Inodes.{is_inline, inline_flag, leaf_records}
+use Rattle.o2_model.specs.Inodes.{is_inline, leaf_records}
 use Rattle.o2_model.specs.Directories.{NamedEntry, DirBlock, dir_blocks, entries_in, inline_block, live_from}
 use Rattle.o2_extent.specs.Readings.{leaf_of}
 use Rattle.o2_extent.specs.declared.leaf.Leaf.{Leaf}
@@ -75,10 +75,10 @@ pub mapped_blocks : (v : Volume) (d size : ℕ) (leaves : List Leaf) (reading : 
 mapped_blocks v d size leaves reading outside tells are kept = subst (λ (bs : List DirBlock). Keeps reading bs) (mapped_are v d size leaves outside tells are) kept
 
 -- ---- what a reader is told of the dinode
-pub inline_told : (bytes at : List ℕ) (d : Dinode) (told_of is : Bool) → bytes ≡ at → d ≡ dinode_of bytes → told_of ≡ has_bits d.dyn_features.0 inline_flag → told_of ≡ is → has_bits (dinode_of at).dyn_features.0 inline_flag ≡ is
+pub inline_told : (bytes at : List ℕ) (d : Dinode) (told_of is : Bool) → bytes ≡ at → d ≡ dinode_of bytes → told_of ≡ has_bits d.dyn_features.0 inline_data_dyn_feature → told_of ≡ is → has_bits (dinode_of at).dyn_features.0 inline_data_dyn_feature ≡ is
 inline_told bytes at d told_of is holds dinode_is tells tested =
-    ap (λ bs. has_bits (dinode_of bs).dyn_features.0 inline_flag) (sym holds)
-    ∙ (ap (λ (x : Dinode). has_bits x.dyn_features.0 inline_flag) (sym dinode_is) ∙ (sym tells ∙ tested))
+    ap (λ bs. has_bits (dinode_of bs).dyn_features.0 inline_data_dyn_feature) (sym holds)
+    ∙ (ap (λ (x : Dinode). has_bits x.dyn_features.0 inline_data_dyn_feature) (sym dinode_is) ∙ (sym tells ∙ tested))
 
 pub size_told_of : (bytes at : List ℕ) (d : Dinode) → bytes ≡ at → d ≡ dinode_of bytes → d.size ≡ (dinode_of at).size
 size_told_of bytes at d holds dinode_is = ap (λ (x : Dinode). x.size) dinode_is ∙ ap (λ bs. (dinode_of bs).size) holds

@@ -3,7 +3,8 @@ use Rattle.std.proofs.Common.{◌≡◌, ℕ, true, false, ◌||◌, not, ◌==�
 use Rattle.std.proofs.lemmas.List.{append-nil, map_push, take-map, length-map}
 use Rattle.std.proofs.lemmas.List.Elements.{filter-append}
 use Rattle.std.proofs.lemmas.Grind.{flat_map-append}
-use Rattle.o2_model.specs.Words.{push, fails_at}
+use Rattle.o2_model.specs.Words.{push}
+use Rattle.o2_model.specs.Faults.{fails_at}
 use Rattle.o2_model.specs.Directories.{NamedEntry, DirBlock, Entry as LiveEntry, behind, live_from, entries_of_block}
 use Rattle.o2_model.specs.Checks.DirBlock.{begin_with_dots, is_sound_dir_block}
 use Rattle.o2_dir.specs.Told.{told}

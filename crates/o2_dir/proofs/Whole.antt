@@ -8,7 +8,8 @@ use Rattle.o2_ondisk.specs.declared.extent_rec.ExtentRec.{ExtentRec}
 use Rattle.o2_ondisk.specs.declared.kind.Kind.{Kind}
 use Rattle.o2_ondisk.specs.declared.kind.Kind.TheVariants.{File, Directory, Character, Block, Fifo, Socket, Link}
 use Rattle.o2_model.specs.Volume.{Volume, block_size, per_cluster, dinode}
-use Rattle.o2_model.specs.Words.{IsLeast, fails_at}
+use Rattle.o2_model.specs.Words.{IsLeast}
+use Rattle.o2_model.specs.Faults.{fails_at}
 use Rattle.o2_model.specs.Checks.Extent.{extent_faults}
 use Rattle.o2_model.specs.Checks.DirBlock.{is_sound_dir_block, dir_block_faults}
 use Rattle.o2_model.specs.Extents.{leaf_clusters}

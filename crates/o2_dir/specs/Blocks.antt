@@ -1,9 +1,10 @@
 -- The blocks of a directory by the leaf records of its extents.
 use Rattle.std.specs.Prelude.{◌≡◌, ℕ, ◌+◌, ◌*◌, ◌≤◌, nat_lt, Bool, ◌&&◌, not, List, [], ◌∷◌, map, filter, flat_map, bytes_eq, take, drop}
 use Rattle.std.specs.List.{range_with_len}
-use Rattle.o2_ondisk.specs.Bits.{has_bits}
+use Rattle.o2_ondisk.specs.Bits.{has_bits, unwritten_extent_flag}
+use Rattle.o2_ondisk.specs.Dinodes.{inline_data_place}
 use Rattle.o2_model.specs.Volume.{Volume}
-use Rattle.o2_model.specs.Words.{fails_at}
+use Rattle.o2_model.specs.Faults.{fails_at}
 use Rattle.o2_model.specs.Directories.{DirBlock, entries_in, entries_of_block, entry_at_front, has_entry, is_live}
 use Rattle.o2_model.specs.Checks.DirBlock.{is_sound_dir_block}
 use Rattle.o2_extent.specs.declared.leaf.Leaf.{Leaf}
@@ -13,7 +14,7 @@ use Rattle.o2_dir.specs.declared.reading.Reading.{Reading}
 
 -- the clusters of the record are not marked as unwritten
 abbrev pub is_written_leaf : Leaf → Bool
-is_written_leaf leaf = not (has_bits leaf.flags 0x1)
+is_written_leaf leaf = not (has_bits leaf.flags unwritten_extent_flag)
 
 -- the k-th block of the record's clusters, and which of the directory's blocks it is
 abbrev pub place_in : ℕ → Leaf → ℕ → Place
@@ -41,7 +42,7 @@ block_at_place v p = record { place = p.place; block = p.block; found = entries_
 
 -- the inline bytes of a dinode of these bytes as a directory's one block, with the entries that fill them
 unfoldable pub blocks_in_dinode : ℕ → ℕ → List ℕ → List DirBlock
-blocks_in_dinode inode size bytes = record { place = 0; block = inode; found = entries_in (take size (drop 0xc8 bytes)) } ∷ []
+blocks_in_dinode inode size bytes = record { place = 0; block = inode; found = entries_in (take size (drop inline_data_place bytes)) } ∷ []
 
 -- a live entry of this name stands at the front of the bytes
 abbrev pub begins_with : List ℕ → List ℕ → Bool

@@ -3,6 +3,7 @@ ghost use Rattle.std.specs.Prelude.{◌≡◌, ◌-◌, ◌*◌, ◌^◌, ◌≤
 ghost use Rattle.std.specs.List.{list_any};
 ghost use Rattle.o2_disk.specs.Image.{Image};
 ghost use Rattle.o2_disk.specs.Device.{Rose};
+ghost use Rattle.o2_ondisk.specs.Dinodes.{last_part_place};
 ghost use Rattle.o2_ondisk.specs.Kinds.{kind_of_mode};
 ghost use Rattle.o2_view.specs.Views.{view_state, view_blocks};
 ghost use Rattle.o2_model.specs.Words.{among};
@@ -38,7 +39,7 @@ fn maps_first(leaves: &[Leaf]) -> bool
 /// Whether a link has a text, in the dinode of these bytes or in its first cluster.
 fn has_text(dinode: &Dinode, bytes: &[u8], leaves: &[Leaf]) -> bool
     requires { 512 ≤ length bytes.now }
-    ensures { result ≡ (nat_lt 0 dinode.now.size && (if has_fast_text dinode.now then nat_lt dinode.now.size (length bytes.now - 192) else list_any (has_cluster 0) leaves.now)) }
+    ensures { result ≡ (nat_lt 0 dinode.now.size && (if has_fast_text dinode.now then nat_lt dinode.now.size (length bytes.now - last_part_place) else list_any (has_cluster 0) leaves.now)) }
 {
     let size = dinode.size;
     if size == 0 {

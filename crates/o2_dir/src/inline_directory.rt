@@ -1,6 +1,7 @@
 // A directory whose entries stand in its dinode.
 ghost use Rattle.std.specs.Prelude.{◌≡◌, ◌+◌, ◌-◌, take, drop, ◌&&◌, nat_le, true, ◌^◌, ◌≤◌, ℕ, length, map, IfOk};
 ghost use Rattle.std.specs.Result.{IfErr};
+ghost use Rattle.o2_ondisk.specs.Dinodes.{last_part_place, inline_data_place};
 ghost use Rattle.o2_ondisk.specs.Number.{number_at};
 ghost use Rattle.o2_model.specs.Volume.{Volume};
 ghost use Rattle.o2_model.specs.Directories.{directory_entries};
@@ -18,8 +19,8 @@ use std::alloc::Global;
 /// Whether so many bytes fit those that the dinode tells, and these its room.
 pub fn has_room(size: u64, bytes: &[u8]) -> bool
     requires { 512 ≤ length bytes.now }
-    ensures test { result ≡ (nat_le size (number_at 0xc0 2 bytes.now) && nat_le (number_at 0xc0 2 bytes.now) (length bytes.now - 200)) }
-    ensures fits { result ≡ true → 200 + size ≤ length bytes.now }
+    ensures test { result ≡ (nat_le size (number_at last_part_place 2 bytes.now) && nat_le (number_at last_part_place 2 bytes.now) (length bytes.now - inline_data_place)) }
+    ensures fits { result ≡ true → inline_data_place + size ≤ length bytes.now }
 {
     let count = u64::from(u16_at(bytes, 0xc0));
     let room = (bytes.len() - 200) as u64;
@@ -29,8 +30,8 @@ pub fn has_room(size: u64, bytes: &[u8]) -> bool
 /// The first bytes of the inline data of a dinode.
 #[tactic(auto, using(std::proofs::lemmas::List::take_rest))]
 fn inline_part(bytes: &[u8], size: u64) -> &[u8]
-    requires { 200 + size ≤ length bytes.now }
-    ensures part { result.now ≡ take size (drop 0xc8 bytes.now) }
+    requires { inline_data_place + size ≤ length bytes.now }
+    ensures part { result.now ≡ take size (drop inline_data_place bytes.now) }
     ensures few { length result.now ≤ length bytes.now }
 {
     let behind = &bytes[0xc8..];
@@ -39,7 +40,7 @@ fn inline_part(bytes: &[u8], size: u64) -> &[u8]
 
 /// Reads the entries among the inline bytes of a dinode.
 pub fn read_part(alloc: Global, inode: u64, size: u64, bytes: &[u8]) -> Result<Reading, NoMemory>
-    requires long { 200 + size ≤ length bytes.now }
+    requires long { inline_data_place + size ≤ length bytes.now }
     requires most { length bytes.now ≤ 4096 }
     ensures { IfOk result (λ reading. Keeps reading (blocks_in_dinode inode size bytes.now)) }
 {

@@ -1,5 +1,6 @@
 // An inode with its extents.
 ghost use Rattle.std.specs.Prelude.{◌≡◌, ◌+◌, ◌^◌, ◌≤◌, ◌<◌, length, Some, IfOk, IsErrOf};
+ghost use Rattle.o2_ondisk.specs.Dinodes.{last_part_place};
 ghost use Rattle.o2_disk.specs.Image.{Image, block_at};
 ghost use Rattle.o2_disk.specs.Device.{Rose};
 ghost use Rattle.o2_view.specs.Counted.{CallsAtMost};
@@ -43,7 +44,7 @@ fn read_dinode_list<D: Disk, const N: usize>(
     requires size { length bytes.now ≡ 2 ^ geo.now.block_bits }
     requires long { 512 ≤ length bytes.now }
     ensures read { IfOk result (λ reading. (I : Image) → (view_state view.old).content ≡ Some I → bytes.now ≡ block_at (2 ^ geo.now.block_bits) I owner
-        → Keeps reading (read_list (volume_seen geo.now I) most_flags owner 0xc0 (most_in_dinode (volume_seen geo.now I)))) }
+        → Keeps reading (read_list (volume_seen geo.now I) most_flags owner last_part_place (most_in_dinode (volume_seen geo.now I)))) }
     ensures within { IfOk result (λ reading. Within geo.now reading.leaves.items) }
     ensures count { (I : Image) → (view_state view.old).content ≡ Some I → (view_state view.new).moment + 1 ≤ (view_state view.old).moment + view_blocks view.old }
     ensures reads { OnlyReads view.old view.new }

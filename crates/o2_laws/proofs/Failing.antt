@@ -5,7 +5,7 @@ use Rattle.std.proofs.lemmas.Bool.{cases_Bool}
 use Rattle.o2_laws.proofs.Found.{append_nothing, map_none}
 use Rattle.o2_laws.proofs.Rising.{none_rising}
 use Rattle.o2_disk.specs.Image.{Image, block_at}
-use Rattle.o2_model.specs.Words.{fails_at, those_not, fails_unless}
+use Rattle.o2_model.specs.Faults.{fails_at, those_not, fails_unless}
 use Rattle.o2_model.specs.Orders.{rising}
 use Rattle.o2_model.specs.Volume.{Volume, over, volume_of}
 use Rattle.o2_model.specs.declared.check.Check.{Check}

@@ -7,9 +7,10 @@ use Rattle.std.proofs.lemmas.List.{ext_get_or}
 use Rattle.std.proofs.lemmas.List.FromFn.{length-map-range_with_len, get_or-map-range_with_len}
 use Rattle.std.proofs.Math.Nat.{pow-le-pow_right}
 use Rattle.o2_ondisk.specs.Number.{number_at}
+use Rattle.o2_ondisk.specs.Signatures.{superblock_signature}
 use Rattle.o2_ondisk.specs.Super.{super_of}
 use Rattle.o2_disk.specs.Image.{Image, byte, block_at}
-use Rattle.o2_model.specs.Superblock.{super_signature, has_super, superblock_bits, block_sizes}
+use Rattle.o2_model.specs.Superblock.{has_super, superblock_bits, block_sizes}
 
 -- ---- bytes
 -- a byte of a block is one of the image
@@ -43,8 +44,8 @@ smaller_block X I size small low same = ext_get_or 0 (block_at small X 2) (block
 super_same : (X I : Image) (bits : ℕ) → length X ≡ length I → block_at (2 ^ bits) X 2 ≡ block_at (2 ^ bits) I 2 → has_super X bits ≡ has_super I bits
 unfolding has_super
 super_same X I bits size same =
-    ap (λ n. nat_le (3 * 2 ^ bits) (512 * n) && number_at 0x0 8 (block_at (2 ^ bits) X 2) == super_signature && (super_of (drop 0xc0 (block_at (2 ^ bits) X 2))).blocksize_bits == bits) size
-    ∙ ap (λ bytes. nat_le (3 * 2 ^ bits) (512 * length I) && number_at 0x0 8 bytes == super_signature && (super_of (drop 0xc0 bytes)).blocksize_bits == bits) same
+    ap (λ n. nat_le (3 * 2 ^ bits) (512 * n) && number_at 0x0 8 (block_at (2 ^ bits) X 2) == superblock_signature && (super_of (drop 0xc0 (block_at (2 ^ bits) X 2))).blocksize_bits == bits) size
+    ∙ ap (λ bytes. nat_le (3 * 2 ^ bits) (512 * length I) && number_at 0x0 8 bytes == superblock_signature && (super_of (drop 0xc0 bytes)).blocksize_bits == bits) same
 
 -- numbers that do not fall
 abbrev pub Rise : List ℕ → Type 0

@@ -1,5 +1,6 @@
 // Laws of extents, each the contract of a function that does nothing.
 ghost use Rattle.std.specs.Prelude.{◌≡◌, ◌<◌, ◌≤◌, ◌+◌, ◌∷◌, [], ℕ, List, length, true};
+ghost use Rattle.o2_ondisk.specs.Dinodes.{last_part_place};
 ghost use Rattle.o2_model.specs.Volume.{Volume, blocks, over};
 ghost use Rattle.o2_laws.specs.Frames.{SameOn};
 ghost use Rattle.o2_model.specs.Extents.{extent_list, leaves_below};
@@ -8,7 +9,7 @@ ghost use Rattle.o2_model.specs.Inodes.{extents, has_list, leaf_records};
 /// A law: where EXTENT holds, the leaf records are those that the depth alone tells, however they are judged.
 pub fn leaf_records_are_those_below()
     ensures { (v : Volume) (b : ℕ) → has_list v b ≡ true → (extents v b).faults ≡ []
-        → leaf_records v b ≡ leaves_below v (extent_list 0xc0 (v.at b)).header.tree_depth (extent_list 0xc0 (v.at b)).records }
+        → leaf_records v b ≡ leaves_below v (extent_list last_part_place (v.at b)).header.tree_depth (extent_list last_part_place (v.at b)).records }
 {}
 
 /// A law: where EXTENT holds, an inode's extents depend on its dinode and on the extent blocks, and on no other block.

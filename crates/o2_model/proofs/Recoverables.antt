@@ -1,7 +1,7 @@
 -- A recoverable image is repairable.
 use Rattle.o2_disk.specs.Image.{Image}
 use Rattle.o2_model.specs.Consistent.{IsConsistent, HasSoundSkeleton}
-use Rattle.o2_model.specs.Replay.{IsRecoverable, IsRepairable}
+use Rattle.o2_model.specs.Recoverable.{IsRecoverable, IsRepairable}
 use Rattle.o2_model.proofs.Skeletons.{none_of_both}
 
 consistent_skeleton : (I : Image) → IsConsistent I → HasSoundSkeleton I

@@ -2,7 +2,8 @@
 use Rattle.std.proofs.Common.{◌≡◌, inl, refl, Some}
 use Rattle.o2_disk.specs.Image.{Image}
 use Rattle.o2_model.specs.Volume.{Volume, opened}
-use Rattle.o2_model.specs.Replay.{IsPartialReplay, IsReplayable, IsReplayStable}
+use Rattle.o2_model.specs.TornReplays.{IsPartialReplay}
+use Rattle.o2_model.specs.Recoverable.{IsReplayable, IsReplayStable}
 
 -- An image is one that a torn replay of it leaves.
 pub partial_self : (I : Image) (v : Volume) → opened I ≡ Some v → IsPartialReplay I I

@@ -10,8 +10,9 @@ use Rattle.o2_ondisk.specs.Super.{super_of}
 use Rattle.o2_ondisk.specs.declared.superblock.Super.{Super}
 use Rattle.o2_ondisk.proofs.NumberLaws.{number_at-take}
 use Rattle.o2_ondisk.proofs.SuperLaws.{super_of-take}
+use Rattle.o2_ondisk.specs.Signatures.{superblock_signature}
 use Rattle.o2_disk.specs.Image.{Image, byte, bytes_from, block_at}
-use Rattle.o2_model.specs.Superblock.{superblock, cluster_count, super_sector, super_signature, has_super}
+use Rattle.o2_model.specs.Superblock.{superblock, cluster_count, super_sector, has_super}
 use Rattle.o2_model.specs.Geometry.{geometry_in, geometry_at}
 
 -- the first bytes of some bytes of an image
@@ -85,12 +86,12 @@ module _ (bits : ℕ) (least : 9 ≤ bits) where
         ∙ ap (λ (n : ℕ). geometry_in (superblock I bits) (cluster_count I bits) n) (generation_is ∙ number_at-first 0x60 4 (omega arith))
 
     -- what the first sector says of a superblock
-    pub has_super-first : 3 * 2 ^ (bits - 9) ≤ length I → has_super I bits ≡ (number_at 0x0 8 bytes == super_signature && (super_of (drop 0xc0 bytes)).blocksize_bits == bits)
+    pub has_super-first : 3 * 2 ^ (bits - 9) ≤ length I → has_super I bits ≡ (number_at 0x0 8 bytes == superblock_signature && (super_of (drop 0xc0 bytes)).blocksize_bits == bits)
     unfolding has_super
     has_super-first fits =
-        ap (λ (b : Bool). b && number_at 0x0 8 (block_at (2 ^ bits) I 2) == super_signature && (superblock I bits).blocksize_bits == bits) room
-        ∙ ap (λ (n : ℕ). n == super_signature && (superblock I bits).blocksize_bits == bits) (sym (number_at-first 0x0 8 (omega arith)))
-        ∙ ap (λ (s : Super). number_at 0x0 8 bytes == super_signature && s.blocksize_bits == bits) (sym superblock-first)
+        ap (λ (b : Bool). b && number_at 0x0 8 (block_at (2 ^ bits) I 2) == superblock_signature && (superblock I bits).blocksize_bits == bits) room
+        ∙ ap (λ (n : ℕ). n == superblock_signature && (superblock I bits).blocksize_bits == bits) (sym (number_at-first 0x0 8 (omega arith)))
+        ∙ ap (λ (s : Super). number_at 0x0 8 bytes == superblock_signature && s.blocksize_bits == bits) (sym superblock-first)
       where
         enough : (k n : ℕ) → 3 * k ≤ n → nat_le (3 * (512 * k)) (512 * n) ≡ true
         enough k n le = grind (arith, nat_tests)
@@ -101,7 +102,7 @@ module _ (bits : ℕ) (least : 9 ≤ bits) where
   -- a disk that ends before block 2 does
   pub has_super-short : (I : Image) → length I < 3 * 2 ^ (bits - 9) → has_super I bits ≡ false
   unfolding has_super
-  has_super-short I short = ap (λ (b : Bool). b && number_at 0x0 8 (block_at (2 ^ bits) I 2) == super_signature && (superblock I bits).blocksize_bits == bits) room
+  has_super-short I short = ap (λ (b : Bool). b && number_at 0x0 8 (block_at (2 ^ bits) I 2) == superblock_signature && (superblock I bits).blocksize_bits == bits) room
     where
       less : (k n : ℕ) → n < 3 * k → nat_le (3 * (512 * k)) (512 * n) ≡ false
       less k n lt = grind (arith, nat_tests)

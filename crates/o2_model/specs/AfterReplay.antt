@@ -3,6 +3,7 @@ use Rattle.std.specs.Prelude.{ℕ, List, map, drop, sum_by, Option}
 use Rattle.std.specs.Option.{option_map, option_map_or}
 use Rattle.std.specs.Ordering.{nat_cmp}
 use Rattle.std.specs.FinMap as finite
+use Rattle.o2_ondisk.specs.Dinodes.{last_part_place}
 use Rattle.o2_ondisk.specs.Super.{super_of}
 use Rattle.o2_ondisk.specs.declared.superblock.Super.{Super}
 use Rattle.o2_disk.specs.Image.{Image}
@@ -45,7 +46,7 @@ pub record VolumeGeometry : Type 0 where
 
 -- the superblock's part of block 2 (struct ocfs2_super_block)
 abbrev pub super_of_volume : Volume → Super
-super_of_volume v = super_of (drop 0xc0 (v.at 2))
+super_of_volume v = super_of (drop last_part_place (v.at 2))
 
 -- the clusters of the slot's journal, none where there is no journal
 abbrev pub journal_length : Volume → ℕ → ℕ

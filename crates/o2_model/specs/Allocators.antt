@@ -1,11 +1,13 @@
 -- The allocators of a volume, and their chains.
-use Rattle.std.specs.Prelude.{ℕ, ◌*◌, ◌-◌, ◌/◌, Bool, true, false, ◌&&◌, ◌==◌, nat_le, List, [], ◌∷◌, ◌++◌, map, flat_map, drop, if◌then◌else◌}
+use Rattle.std.specs.Prelude.{ℕ, ◌*◌, ◌-◌, ◌/◌, ◌%◌, ◌^◌, Bool, true, false, ◌&&◌, ◌==◌, nat_le, List, [], ◌∷◌, ◌++◌, map, flat_map, drop, if◌then◌else◌}
 use Rattle.std.specs.Option.{option_map_or}
 use Rattle.o2_ondisk.specs.Bits.{has_bits, chain_inode_flag}
 use Rattle.o2_ondisk.specs.ChainListHeaders.{chain_list_header_of}
 use Rattle.o2_ondisk.specs.ChainRecs.{chain_rec_of}
+use Rattle.o2_ondisk.specs.Dinodes.{last_part_place, list_records_place}
 use Rattle.o2_ondisk.specs.declared.chain_list_header.ChainListHeader.{ChainListHeader}
 use Rattle.o2_ondisk.specs.declared.chain_rec.ChainRec.{ChainRec}
+use Rattle.o2_ondisk.specs.declared.role_data.RoleData.{RoleData}
 use Rattle.o2_model.specs.declared.allocator.Allocator.{Allocator}
 use Rattle.o2_model.specs.declared.allocator.BitUse.{BitUse}
 use Rattle.o2_model.specs.declared.allocator.BitUse.TheVariants.{Clusters, Inodes, Metadata}
@@ -61,11 +63,11 @@ allocators v =
 -- ---- their chains
 -- the header of an allocator's chain list (id2.i_chain of struct ocfs2_dinode)
 abbrev pub chain_list_header : Volume → ℕ → ChainListHeader
-chain_list_header v b = chain_list_header_of (drop 0xc0 (v.at b))
+chain_list_header v b = chain_list_header_of (drop last_part_place (v.at b))
 
 -- at most this many chain records fit a dinode (ocfs2_chain_recs_per_inode)
 abbrev pub most_chains : Volume → ℕ
-most_chains v = (block_size v - 208) / 16
+most_chains v = (block_size v - list_records_place) / 16
 
 -- a bit of the bitmap is a cluster, and a group of it has as many as fit; elsewhere a bit is a block, and a group has two or more
 abbrev pub is_sound_chain_size : Volume → BitUse → ChainListHeader → Bool
@@ -84,9 +86,17 @@ is_sound_chain_header v a =
 unfoldable pub chains : Volume → Allocator → List ChainRec
 chains v a =
     if is_sound_chain_header v a
-    then table chain_rec_of 16 0xd0 (chain_list_header v a.block).next_free_rec (v.at a.block)
+    then table chain_rec_of 16 list_records_place (chain_list_header v a.block).next_free_rec (v.at a.block)
     else []
 
 -- the blocks of the groups at which its chains begin
 unfoldable pub chain_heads : Volume → Allocator → List ℕ
 chain_heads v a = map (λ r. r.blkno) (chains v a)
+
+-- ---- totals of an allocator or a window
+-- i_used and i_total of id1.bitmap1 of struct ocfs2_dinode
+abbrev pub used_of : RoleData → ℕ
+used_of d = d.0 % 2 ^ 32
+
+abbrev pub total_of : RoleData → ℕ
+total_of d = d.0 / 2 ^ 32

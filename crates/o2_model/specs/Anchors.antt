@@ -4,7 +4,7 @@ use Rattle.std.specs.List.{list_all}
 use Rattle.std.specs.Option.{option_map_or}
 use Rattle.o2_ondisk.specs.Fields.{paste_at, bytes_at}
 use Rattle.o2_ondisk.specs.Super.{super_of}
-use Rattle.o2_ondisk.specs.Dinodes.{dinode_of}
+use Rattle.o2_ondisk.specs.Dinodes.{dinode_of, last_part_place}
 use Rattle.o2_model.specs.Words.{among}
 use Rattle.o2_model.specs.Orders.{from_to, first_of}
 use Rattle.o2_model.specs.Volume.{Volume, over}
@@ -49,7 +49,7 @@ with_old_numbers old new =
 
 -- how many slots, and how many clusters, the bytes of block 2 tell
 abbrev pub slots_in : List ℕ → ℕ
-slots_in bytes = (super_of (drop 0xc0 bytes)).max_slots
+slots_in bytes = (super_of (drop last_part_place bytes)).max_slots
 
 abbrev pub clusters_in : List ℕ → ℕ
 clusters_in bytes = (dinode_of bytes).clusters

@@ -17,8 +17,10 @@ use Rattle.o2_model.specs.Inodes.{records_of}
 use Rattle.o2_model.specs.SystemFiles.{system_inode}
 use Rattle.o2_model.specs.Groups.{groups, group_clusters, is_of_clusters, inodes_of}
 use Rattle.o2_model.specs.LeafRecords.{clusters_under}
-use Rattle.o2_model.specs.Indexes.{indexed_directories, index_clusters, is_sound_index}
-use Rattle.o2_model.specs.Slots.{window_clusters, is_sound_window, truncate_records, truncated_clusters, is_sound_truncation}
+use Rattle.o2_model.specs.Indexes.{indexed_directories, index_clusters}
+use Rattle.o2_model.specs.SoundIndexes.{is_sound_index}
+use Rattle.o2_model.specs.Windows.{window_clusters, is_sound_window}
+use Rattle.o2_model.specs.TruncateLogs.{truncate_records, truncated_clusters, is_sound_truncation}
 
 -- ---- claims
 abbrev pub claims_by : Owner → List ℕ → List Claim

@@ -1,7 +1,7 @@
 -- Where the groups of the global bitmap and the backups of the superblock stand.
 use Rattle.std.specs.Prelude.{ℕ, ◌+◌, ◌-◌, ◌*◌, ◌/◌, ◌^◌, ◌==◌, nat_lt, List, [], map, filter, if◌then◌else◌}
 use Rattle.std.specs.List.{range_with_len}
-use Rattle.o2_ondisk.specs.Bits.{has_bits}
+use Rattle.o2_ondisk.specs.Bits.{has_bits, backup_super_feature}
 use Rattle.o2_model.specs.Volume.{Volume, block_size, per_cluster}
 use Rattle.o2_model.specs.Clusters.{cluster_of}
 
@@ -21,13 +21,9 @@ group_place v i = if i == 0 then v.geo.first_group else i * group_size v * per_c
 abbrev pub group_index : Volume → ℕ → ℕ
 group_index v b = cluster_of v b / group_size v
 
--- `OCFS2_FEATURE_COMPAT_BACKUP_SB` of s_feature_compat
-abbrev pub backup_feature : ℕ
-backup_feature = 0x1
-
 -- the clusters of the superblock's backups: those of byte 1 GiB and of each fourfold up to 1 TiB, as far as the volume goes
 abbrev pub backup_clusters : Volume → List ℕ
 backup_clusters v =
-    if has_bits v.geo.compat backup_feature
+    if has_bits v.geo.compat backup_super_feature
     then filter (λ c. nat_lt c v.geo.clusters) (map (λ k. 2 ^ (30 + 2 * k - v.geo.cluster_bits)) (range_with_len 0 6))
     else []

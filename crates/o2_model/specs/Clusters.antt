@@ -16,3 +16,7 @@ are_clusters_in_range v b count =
     b % per_cluster v == 0
     && nat_lt 0 (cluster_of v b)
     && nat_le (cluster_of v b + count) v.geo.clusters
+
+-- clusters of the volume behind its cluster 0
+abbrev pub are_clusters_of : Volume → ℕ → ℕ → Bool
+are_clusters_of v first count = nat_lt 0 first && nat_le (first + count) v.geo.clusters

@@ -2,6 +2,7 @@
 use Rattle.std.specs.Prelude.{ℕ, ◌+◌, ◌-◌, ◌*◌, ◌/◌, ◌%◌, Bool, ◌&&◌, nat_lt, nat_le, List, map, find, take, drop, slice_index, Option, Some, if◌then◌else◌}
 use Rattle.std.specs.List.{range_with_len}
 use Rattle.std.specs.Option.{option_map_or}
+use Rattle.o2_ondisk.specs.Dinodes.{last_part_place}
 use Rattle.o2_ondisk.specs.declared.extent_rec.ExtentRec.{ExtentRec}
 use Rattle.o2_ondisk.specs.declared.kind.Kind.{Kind}
 use Rattle.o2_ondisk.specs.declared.kind.Kind.TheVariants.{File, Directory, Link}
@@ -36,7 +37,7 @@ byte_of v leaves k = byte_in_block v leaves (k / block_size v) (k % block_size v
 
 -- the text of a link that stands in the dinode
 abbrev pub fast_bytes : Volume → ℕ → List ℕ
-fast_bytes v b = take (dinode v b).size (drop 0xc0 (v.at b))
+fast_bytes v b = take (dinode v b).size (drop last_part_place (v.at b))
 
 -- the i_size bytes of a file or a link
 unfoldable pub bytes_of : Volume → ℕ → List ℕ

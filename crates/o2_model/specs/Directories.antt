@@ -1,7 +1,8 @@
 -- The entries of a directory.
 use Rattle.std.specs.Prelude.{◌≡◌, ℕ, zero, suc, pred, ◌+◌, ◌-◌, ◌*◌, ◌/◌, ◌%◌, Bool, ◌&&◌, ◌||◌, not, ◌==◌, nat_lt, nat_le, List, [], ◌∷◌, ◌++◌, map, flat_map, filter, length, take, drop, codes, bytes_eq, IsTrue, find, Option, Some, None, option_map, unwrap_or, if◌then◌else◌}
 use Rattle.std.specs.List.{range_with_len}
-use Rattle.o2_ondisk.specs.Bits.{has_bits}
+use Rattle.o2_ondisk.specs.Bits.{has_bits, unwritten_extent_flag}
+use Rattle.o2_ondisk.specs.Dinodes.{inline_data_place}
 use Rattle.o2_ondisk.specs.DirEntries.{dir_entry_of}
 use Rattle.o2_ondisk.specs.declared.dir_entry.DirEntry.{DirEntry}
 use Rattle.o2_ondisk.specs.declared.extent_rec.ExtentRec.{ExtentRec}
@@ -71,7 +72,7 @@ pub record DirBlock : Type 0 where
 
 -- the clusters of the record are not marked `OCFS2_EXT_UNWRITTEN`
 abbrev pub is_written : ExtentRec → Bool
-is_written r = not (has_bits (leaf_flags r) 0x1)
+is_written r = not (has_bits (leaf_flags r) unwritten_extent_flag)
 
 -- the k-th block of a run that begins with this place in the directory and this block
 abbrev pub dir_block : Volume → ℕ → ℕ → ℕ → DirBlock
@@ -85,11 +86,11 @@ mapped v limit r =
 
 -- at most this many bytes fit a dinode (ocfs2_max_inline_data)
 abbrev pub inline_room : Volume → ℕ
-inline_room v = block_size v - 200
+inline_room v = block_size v - inline_data_place
 
 -- the first i_size inline bytes (id_data of struct ocfs2_inline_data)
 abbrev pub inline_bytes : Volume → ℕ → List ℕ
-inline_bytes v b = take (dinode v b).size (drop 0xc8 (v.at b))
+inline_bytes v b = take (dinode v b).size (drop inline_data_place (v.at b))
 
 -- the inline bytes as the directory's one block, without entries where i_size does not fit the dinode
 abbrev pub inline_block : Volume → ℕ → DirBlock

@@ -1,7 +1,7 @@
 -- The numbers of a volume, as its superblock tells them.
 use Rattle.std.specs.Prelude.{ℕ, ◌^◌, List, drop, Option}
 use Rattle.std.specs.Option.{option_map}
-use Rattle.o2_ondisk.specs.Dinodes.{dinode_of}
+use Rattle.o2_ondisk.specs.Dinodes.{dinode_of, last_part_place}
 use Rattle.o2_ondisk.specs.Super.{super_of}
 use Rattle.o2_ondisk.specs.declared.superblock.Super.{Super}
 use Rattle.o2_disk.specs.Image.{Image, block_at}
@@ -26,7 +26,7 @@ geometry_in part clusters generation = record {
 
 -- those that the bytes of block 2 tell
 abbrev pub geometry_in_block : List ℕ → Geo
-geometry_in_block bytes = geometry_in (super_of (drop 0xc0 bytes)) (dinode_of bytes).clusters (dinode_of bytes).fs_generation
+geometry_in_block bytes = geometry_in (super_of (drop last_part_place bytes)) (dinode_of bytes).clusters (dinode_of bytes).fs_generation
 
 -- those of the image where a block has 2 ^ bits bytes
 abbrev pub geometry_at : Image → ℕ → Geo

@@ -1,6 +1,7 @@
 -- What a dinode says of its inode: the kind, where its data is, and its extents.
-use Rattle.std.specs.Prelude.{ℕ, ◌-◌, ◌/◌, Bool, true, false, ◌&&◌, not, ◌==◌, List, [], ◌∷◌, flat_map, Option, Some, if◌then◌else◌}
-use Rattle.o2_ondisk.specs.Bits.{has_bits}
+use Rattle.std.specs.Prelude.{ℕ, ◌+◌, ◌-◌, ◌/◌, Bool, true, false, ◌&&◌, not, ◌==◌, List, [], ◌∷◌, flat_map, Option, Some, if◌then◌else◌}
+use Rattle.o2_ondisk.specs.Bits.{has_bits, inline_data_dyn_feature, local_alloc_inode_flag, chain_inode_flag, dealloc_inode_flag, unwritten_extent_flag, refcounted_extent_flag}
+use Rattle.o2_ondisk.specs.Dinodes.{last_part_place, list_records_place}
 use Rattle.o2_ondisk.specs.Kinds.{kind_of_mode}
 use Rattle.o2_ondisk.specs.declared.dinode.Dinode.{Dinode}
 use Rattle.o2_ondisk.specs.declared.extent_rec.ExtentRec.{ExtentRec}
@@ -36,13 +37,9 @@ unfoldable pub is_link : Volume → ℕ → Bool
 is_link v b = is_link_kind (kind v b)
 
 -- ---- where the data is
--- `OCFS2_INLINE_DATA_FL` of i_dyn_features
-abbrev pub inline_flag : ℕ
-inline_flag = 0x1
-
 -- the data stands in the dinode (id2.i_data of struct ocfs2_dinode)
 abbrev pub is_inline : Volume → ℕ → Bool
-is_inline v b = has_bits (dinode v b).dyn_features.0 inline_flag
+is_inline v b = has_bits (dinode v b).dyn_features.0 inline_data_dyn_feature
 
 -- a symbolic link whose text stands in the dinode in place of a list (id2.i_symlink of struct ocfs2_dinode)
 abbrev pub has_fast_text : Dinode → Bool
@@ -53,7 +50,7 @@ is_fast_link v b = has_fast_text (dinode v b)
 
 -- `OCFS2_LOCAL_ALLOC_FL`, `OCFS2_CHAIN_FL` and `OCFS2_DEALLOC_FL` of i_flags: something else stands in the list's place
 abbrev pub no_list_flags : ℕ
-no_list_flags = 0xc40
+no_list_flags = local_alloc_inode_flag + chain_inode_flag + dealloc_inode_flag
 
 -- devices, fifos and sockets have no data
 abbrev pub has_data : Option Kind → Bool
@@ -68,7 +65,7 @@ unfoldable pub holds_list : Dinode → Bool
 holds_list d =
     has_data (kind_of_mode d.mode)
     && not (has_fast_text d)
-    && not (has_bits d.dyn_features.0 inline_flag)
+    && not (has_bits d.dyn_features.0 inline_data_dyn_feature)
     && not (has_bits d.flags.0 no_list_flags)
 
 abbrev pub has_list : Volume → ℕ → Bool
@@ -77,15 +74,15 @@ has_list v b = holds_list (dinode v b)
 -- ---- extents
 -- at most this many records fit a dinode (ocfs2_extent_recs_per_inode)
 abbrev pub most_in_dinode : Volume → ℕ
-most_in_dinode v = (block_size v - 0xd0) / 16
+most_in_dinode v = (block_size v - list_records_place) / 16
 
 -- the greatest e_flags of its leaf records: UNWRITTEN and REFCOUNTED, and no clusters of a directory are shared
 abbrev pub most_flags : Volume → ℕ → ℕ
-most_flags v b = if is_directory v b then 1 else 3
+most_flags v b = if is_directory v b then unwritten_extent_flag else unwritten_extent_flag + refcounted_extent_flag
 
 -- what is read of the dinode's own list
 unfoldable pub extents : Volume → ℕ → Extents
-extents v b = if has_list v b then read_list v (most_flags v b) b 0xc0 (most_in_dinode v) else nothing_read
+extents v b = if has_list v b then read_list v (most_flags v b) b last_part_place (most_in_dinode v) else nothing_read
 
 -- the leaf records of the dinode's own list, without those of 0 clusters
 abbrev pub leaf_records : Volume → ℕ → List ExtentRec

@@ -1,7 +1,7 @@
 -- The journals of a volume: their blocks and their superblocks.
-use Rattle.std.specs.Prelude.{ℕ, Bool, ◌&&◌, ◌||◌, ◌==◌, nat_lt, nat_le, List, [], ◌∷◌, flat_map, length, slice_get, Option}
+use Rattle.std.specs.Prelude.{ℕ, ◌+◌, Bool, ◌&&◌, ◌||◌, ◌==◌, nat_lt, nat_le, List, [], ◌∷◌, flat_map, length, slice_get, Option}
 use Rattle.std.specs.Option.{option_map_or}
-use Rattle.o2_ondisk.specs.Bits.{has_bits, dirty_journal_flag}
+use Rattle.o2_ondisk.specs.Bits.{has_bits, dirty_journal_flag, revoke_log_feature, wide_log_feature}
 use Rattle.o2_ondisk.specs.JournalSupers.{journal_super_of}
 use Rattle.o2_ondisk.specs.declared.journal_super.JournalSuper.{JournalSuper}
 use Rattle.o2_model.specs.declared.system_file.SlotFile.TheVariants.{Journal}
@@ -58,9 +58,9 @@ is_sound_journal_super v b =
     && (journal_super v b).blocksize == block_size v
     && has_sound_bounds (length (journal_blocks v b)) (journal_super v b)
 
--- `JBD2_FEATURE_INCOMPAT_REVOKE` and `JBD2_FEATURE_INCOMPAT_64BIT` are the only features that it may have, 1 and 2
+-- `JBD2_FEATURE_INCOMPAT_REVOKE` and `JBD2_FEATURE_INCOMPAT_64BIT`, 1 and 2, are the only features that it may have
 unfoldable pub has_known_features : Volume → ℕ → Bool
 has_known_features v b =
     (journal_super v b).feature_compat == 0
     && (journal_super v b).feature_ro_compat == 0
-    && nat_le (journal_super v b).feature_incompat 3
+    && nat_le (journal_super v b).feature_incompat (revoke_log_feature + wide_log_feature)

@@ -1,7 +1,7 @@
 -- The log of a journal (JBD2): its transactions, and the writes that a replay applies.
 use Rattle.std.specs.Prelude.{ℕ, zero, suc, pred, ◌+◌, ◌-◌, ◌*◌, ◌/◌, ◌%◌, ◌^◌, min, Bool, ◌&&◌, not, ◌==◌, nat_lt, List, [], ◌∷◌, ◌++◌, map, filter, length, drop, if◌then◌else◌}
 use Rattle.std.specs.List.{list_any}
-use Rattle.o2_ondisk.specs.Bits.{has_bits}
+use Rattle.o2_ondisk.specs.Bits.{has_bits, escaped_tag_flag, same_identifier_tag_flag, last_tag_flag, wide_log_feature}
 use Rattle.o2_ondisk.specs.Number.{big_number_at}
 use Rattle.o2_ondisk.specs.JournalTags.{journal_tag_of}
 use Rattle.o2_ondisk.specs.LogHeaders.{log_header_of}
@@ -25,16 +25,16 @@ tag_size wide = if wide then 12 else 8
 abbrev pub tag_at_front : Bool → List ℕ → Tag
 tag_at_front wide bytes = record {
   block = (journal_tag_of bytes).blocknr + (if wide then 2 ^ 32 * big_number_at 0x8 4 bytes else 0);
-  is_escaped = has_bits (journal_tag_of bytes).flags 0x1;
+  is_escaped = has_bits (journal_tag_of bytes).flags escaped_tag_flag;
 }
 
 -- from one tag to the next: an identifier of 16 bytes stands between them, unless it is the same as before (JBD2_FLAG_SAME_UUID)
 abbrev pub tag_step : Bool → List ℕ → ℕ
-tag_step wide bytes = tag_size wide + (if has_bits (journal_tag_of bytes).flags 0x2 then 0 else 16)
+tag_step wide bytes = tag_size wide + (if has_bits (journal_tag_of bytes).flags same_identifier_tag_flag then 0 else 16)
 
 -- it is the last one (JBD2_FLAG_LAST_TAG)
 abbrev pub is_last_tag : List ℕ → Bool
-is_last_tag bytes = has_bits (journal_tag_of bytes).flags 0x8
+is_last_tag bytes = has_bits (journal_tag_of bytes).flags last_tag_flag
 
 -- the tags behind the first `skipped` of these bytes: up to the last one, or as far as whole ones fit
 abbrev pub tags_behind : Bool → ℕ → List ℕ → List Tag
@@ -129,7 +129,7 @@ log_blocks v b =
 
 -- `JBD2_FEATURE_INCOMPAT_64BIT` of the journal's superblock
 abbrev pub is_wide : Volume → ℕ → Bool
-is_wide v b = has_bits (journal_super v b).feature_incompat 0x2
+is_wide v b = has_bits (journal_super v b).feature_incompat wide_log_feature
 
 -- the transactions in the journal whose dinode is in block b
 unfoldable pub log_in : Volume → ℕ → List Transaction

@@ -1,6 +1,6 @@
 -- Refcount trees: how many times the clusters that files share are referred to.
 use Rattle.std.specs.Prelude.{ℕ, zero, suc, ◌+◌, ◌-◌, ◌/◌, Bool, ◌&&◌, not, ◌==◌, nat_lt, nat_le, List, [], ◌∷◌, ◌++◌, map, filter, fold, drop, if◌then◌else◌}
-use Rattle.o2_ondisk.specs.Bits.{has_bits, has_refcount_dyn_feature}
+use Rattle.o2_ondisk.specs.Bits.{has_bits, has_refcount_dyn_feature, tree_refcount_flag}
 use Rattle.o2_ondisk.specs.RefcountBlocks.{refcount_block_of}
 use Rattle.o2_ondisk.specs.RefcountListHeaders.{refcount_list_header_of}
 use Rattle.o2_ondisk.specs.RefcountRecs.{refcount_rec_of}
@@ -43,7 +43,7 @@ is_refcount_block v b =
 
 -- `OCFS2_REFCOUNT_TREE_FL` of rf_flags: the root's list names leaf blocks
 abbrev pub has_leaf_blocks : Volume → ℕ → Bool
-has_leaf_blocks v root = is_refcount_block v root && has_bits (refcount_block v root).flags 0x2
+has_leaf_blocks v root = is_refcount_block v root && has_bits (refcount_block v root).flags tree_refcount_flag
 
 -- at most this many extent records, or refcount records, fit a refcount block
 abbrev pub most_in_refcount_block : Volume → ℕ

@@ -1,22 +1,15 @@
 -- Where a volume's superblock is, and what it says.
-use Rattle.std.specs.Prelude.{◌≡◌, ℕ, ◌*◌, ◌^◌, ◌/◌, Bool, ◌&&◌, ◌==◌, nat_le, List, [], ◌∷◌, ◌++◌, length, drop, find, codes, Option, refl}
-use Rattle.byteorder.specs.Endian.{little_number}
+use Rattle.std.specs.Prelude.{ℕ, ◌*◌, ◌^◌, ◌/◌, Bool, ◌&&◌, ◌==◌, nat_le, List, [], ◌∷◌, length, drop, find, Option}
+use Rattle.o2_ondisk.specs.Dinodes.{last_part_place}
 use Rattle.o2_ondisk.specs.Number.{number_at}
+use Rattle.o2_ondisk.specs.Signatures.{superblock_signature}
 use Rattle.o2_ondisk.specs.Super.{super_of}
 use Rattle.o2_ondisk.specs.declared.superblock.Super.{Super}
 use Rattle.o2_disk.specs.Image.{Image, block_at}
 
--- the signature of the superblock's dinode, as the number that its 8 bytes are
-abbrev pub super_signature : ℕ
-super_signature = 0x3256_5346_434f
-
--- it is these letters, filled up with NUL
-pub signature-is : little_number 8 (codes "OCFSV2" ++ 0 ∷ 0 ∷ []) ≡ super_signature
-signature-is = refl
-
 -- the superblock's part of block 2, where a block has 2 ^ bits bytes (struct ocfs2_super_block)
 abbrev pub superblock : Image → ℕ → Super
-superblock I bits = super_of (drop 0xc0 (block_at (2 ^ bits) I 2))
+superblock I bits = super_of (drop last_part_place (block_at (2 ^ bits) I 2))
 
 -- the number of the volume's clusters, in the superblock's dinode (i_clusters of struct ocfs2_dinode)
 abbrev pub cluster_count : Image → ℕ → ℕ
@@ -26,7 +19,7 @@ cluster_count I bits = number_at 0x14 4 (block_at (2 ^ bits) I 2)
 unfoldable pub has_super : Image → ℕ → Bool
 has_super I bits =
     nat_le (3 * 2 ^ bits) (512 * length I)
-    && number_at 0x0 8 (block_at (2 ^ bits) I 2) == super_signature
+    && number_at 0x0 8 (block_at (2 ^ bits) I 2) == superblock_signature
     && (superblock I bits).blocksize_bits == bits
 
 -- the sizes that a block may have, as powers of two

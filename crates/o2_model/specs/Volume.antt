@@ -1,7 +1,7 @@
 -- A volume: the numbers of its superblock, and its blocks.
 use Rattle.std.specs.Prelude.{ℕ, ◌-◌, ◌*◌, ◌/◌, ◌^◌, Bool, ◌&&◌, ◌==◌, nat_lt, List, length, Option}
 use Rattle.std.specs.Option.{option_map}
-use Rattle.o2_ondisk.specs.Bits.{has_bits}
+use Rattle.o2_ondisk.specs.Bits.{has_bits, valid_inode_flag}
 use Rattle.o2_ondisk.specs.Dinodes.{dinode_of}
 use Rattle.o2_ondisk.specs.Signatures.{inode_signature}
 use Rattle.o2_ondisk.specs.declared.dinode.Dinode.{Dinode}
@@ -43,10 +43,6 @@ is_in_range v b = nat_lt 0 b && nat_lt b (blocks v)
 abbrev pub dinode : Volume → ℕ → Dinode
 dinode v b = dinode_of (v.at b)
 
--- `OCFS2_VALID_FL` of i_flags
-abbrev pub valid_flag : ℕ
-valid_flag = 0x1
-
 -- the dinode at b is valid: the block is in range, and the dinode is one of this volume and of this block, in use
 unfoldable pub is_valid : Volume → ℕ → Bool
 is_valid v b =
@@ -54,7 +50,7 @@ is_valid v b =
     && (dinode v b).signature.0 == inode_signature
     && (dinode v b).blkno == b
     && (dinode v b).fs_generation == v.geo.generation
-    && has_bits (dinode v b).flags.0 valid_flag
+    && has_bits (dinode v b).flags.0 valid_inode_flag
 
 -- ---- volumes in images
 -- the volume of an image where a block has 2 ^ bits bytes

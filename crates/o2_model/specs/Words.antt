@@ -1,5 +1,5 @@
 -- Words that the definitions over a volume share.
-use Rattle.std.specs.Prelude.{◌≡◌, ℕ, ◌+◌, ◌*◌, ◌<◌, ◌≤◌, nat_eq, Bool, true, not, ◌==◌, List, [], ◌∷◌, ◌++◌, All, map, filter, drop, if◌then◌else◌}
+use Rattle.std.specs.Prelude.{◌≡◌, ℕ, ◌+◌, ◌*◌, ◌<◌, ◌≤◌, nat_eq, Bool, true, ◌==◌, List, [], ◌∷◌, ◌++◌, All, map, drop}
 use Rattle.std.specs.List.{range_with_len, list_any, IsDistinct}
 
 -- `count` records of `width` bytes each, from byte `at` on
@@ -23,16 +23,3 @@ pub record IsLeast (n : ℕ) (ns : List ℕ) : Type 0 where
 pub record Apart (n : ℕ) (bs : List ℕ) : Type 0 where
   pub distinct : IsDistinct nat_eq (0 ∷ bs)
   pub within : (b : ℕ) → among (0 ∷ bs) b ≡ true → b < n
-
--- ---- where a check fails
--- the items that lack something
-abbrev pub those_not : {A : Type 0} → (A → Bool) → List A → List A
-those_not holds items = filter (λ x. not (holds x)) items
-
--- this block, unless the fact holds
-abbrev pub fails_unless : ℕ → Bool → List ℕ
-fails_unless block holds = if holds then [] else block ∷ []
-
--- the places of the items that lack something
-abbrev pub fails_at : {A : Type 0} → (A → ℕ) → (A → Bool) → List A → List ℕ
-fails_at place holds items = map place (those_not holds items)

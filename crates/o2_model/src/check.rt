@@ -3,100 +3,137 @@ ghost use Rattle.std.specs.Prelude.{◌≡◌};
 
 use std::fmt;
 
-/// A check, named for what it finds wrong. Their order is that in which failures are told.
+/// A check, with its number, where it fails, and what holds where it does not. Their order is that in which failures are told.
 #[derive(Clone, Copy, Debug, PartialEq, Eq)]
 pub enum Check {
-    /// The super's numbers do not fit one another or the device.
+    /// Number 1, at block 2: it names its own block and is in use; a cluster has 4 KiB to 1 MiB; there are 1 to 255 slots; the
+    /// first group descriptor begins a cluster of the first group and of the volume, behind the superblock and in no backup; the
+    /// device has all blocks; the root and the system directory are two blocks of the volume.
     Super,
-    /// The system directory's dinode is not valid, or its entries can't be read.
+    /// Number 2, at the system directory: it is a valid dinode of a directory, for which EXTENT, INODE_SIZE, DIR_BLOCK,
+    /// DIRENT_NAME and DIRENT_DUP hold.
     Sysdir,
-    /// A system file is missing, has the wrong type or flags, or is named twice.
+    /// Number 3, at the inode that the entry names; for what is missing, the system directory: no required file is missing; each
+    /// entry but the dots names an inode on a bit, of the kind and with the flags of its name, neither the root nor the system
+    /// directory, and no inode is named twice; no name is of a slot that there is not; no file of a slot shares clusters; the
+    /// root and the system directory stand on bits.
     Sysfile,
-    /// The root's dinode is not valid, or is no directory.
+    /// Number 4, at the root: it is a valid dinode of a directory.
     Root,
-    /// An allocator's `cl_bpc`, `cl_cpg`, `cl_count` or `cl_next_free_rec` is wrong.
+    /// Number 5, at the allocator: cl_bpc and cl_cpg are those of clusters in the global bitmap, else those of blocks, with at
+    /// least two bits in a group; cl_count is at least 1 and fits the dinode, and cl_next_free_rec fits it.
     ChainHeader,
-    /// A journal's extents or its superblock can't be used.
+    /// Number 6, at the journal: EXTENT holds; it has clusters, which follow one another from its cluster 0 on and have no flags;
+    /// its superblock has the magic, the type, the volume's block size, bounds that fit, and no features but REVOKE and 64BIT.
     Journal,
-    /// The slot map's extents have a gap, or too little room for `s_max_slots`.
+    /// Number 7, at the slot map: EXTENT holds; its clusters follow one another from its cluster 0 on, have no flags, and have
+    /// room for an entry of each slot.
     SlotMap,
-    /// A journal's dinode has `OCFS2_JOURNAL_DIRTY_FL`.
+    /// Number 8, at the journal: its flag `OCFS2_JOURNAL_DIRTY_FL` is clear.
     JournalDirty,
-    /// A chain goes on to a block that is no group of its allocator, or was met before.
+    /// Number 9, at the allocator or the group that has the link: the link is 0, or the block of a good group that was not walked
+    /// before.
     ChainLink,
-    /// No chain of the global bitmap has this group.
+    /// Number 10, at the place of the group: the walk reaches each group of the global bitmap.
     GroupMissing,
-    /// A set bit of an inode allocator stands for no inode.
+    /// Number 11, at the group of inodes: bit 0 is set, and each further set bit stands for an inode.
     InodeAllocBit,
-    /// An inode's `i_suballoc_slot`, `i_suballoc_bit` or `i_suballoc_loc` is wrong.
+    /// Number 12, at the inode: i_suballoc_slot and i_suballoc_bit are those of its group and bit, and i_suballoc_loc is 0 or the
+    /// group.
     InodeSuballoc,
-    /// An `i_mode` has none of the seven kinds.
+    /// Number 13, at the inode: i_mode has one of the seven kinds.
     InodeKind,
-    /// An extent list, in a dinode or an extent block, is not well formed.
+    /// Number 14, at the dinode or the extent block that has the list: a list's count fits its room, its records in use fit its
+    /// count, its tree is at most 5 deep; inner records rise and name extent blocks in range, each once in its tree, with the
+    /// right signature, number, generation and depth one less; leaf records rise without overlap, end below 2^32, have whole
+    /// clusters in range, and no flags but UNWRITTEN and REFCOUNTED, in a directory no flag but UNWRITTEN.
     Extent,
-    /// An extent block or refcount block has no bit of an extent_alloc, or is used twice.
+    /// Number 15, at the extent block or refcount block: it is from an extent_alloc, and is used once.
     MetaBlock,
-    /// The `h_suballoc_slot`, bit or loc of an extent block, or those of a refcount block, are wrong.
+    /// Number 16, at the extent block or refcount block: its suballoc_slot and suballoc_bit are those of its group and bit, and
+    /// suballoc_loc is 0 or the group; a block that is from no extent_alloc is not judged, nor is one without the signature and
+    /// number of a refcount block.
     MetaSuballoc,
-    /// The `h_next_leaf_blk` of an extent block is not the next leaf.
+    /// Number 17, at the extent block: h_next_leaf_blk of a leaf is the next leaf of its tree, or 0 in the last one.
     EbNext,
-    /// An `i_last_eb_blk` is not the last leaf.
+    /// Number 18, at the dinode or the refcount root that has the list: i_last_eb_blk, or rf_last_eb_blk, is the last leaf block
+    /// of the list, or 0 where it has none.
     LastEb,
-    /// An `i_size` does not fit the inode's kind or its extents.
+    /// Number 19, at the inode: i_size fits the inline data, and that the dinode; a directory has whole blocks, at least one, all
+    /// mapped and written; a link has a text, in the dinode or in cluster 0; a file ends within the clusters that have a number,
+    /// unless it is one of the volume's own.
     InodeSize,
-    /// The entries of a directory block do not fill it.
+    /// Number 20, at the directory's block: entries fill it, and in the directory's first block the first two are live, and named
+    /// `.` and `..`.
     DirBlock,
-    /// An entry's name is empty, or has a slash or a NUL.
+    /// Number 21, at the directory's block: the name of each live entry has 1 to 255 bytes, none of them a slash or NUL.
     DirentName,
-    /// Two entries of a directory have one name.
+    /// Number 22, at the directory's block that has the later entry: no two live entries but the dots have one name.
     DirentDup,
-    /// A directory's `.` or `..` names another inode, or comes again.
+    /// Number 23, at the directory's block: in the tree the first `.` names the directory, the first `..` its parent, and there
+    /// are no further ones; of a missing one DIR_BLOCK alone is told.
     DirDots,
-    /// An entry names no inode, or one of the volume's own.
+    /// Number 24, at the directory's block: in the tree live entries but the dots name inodes without `OCFS2_SYSTEM_FL` that are
+    /// not the volume's own.
     DirentInode,
-    /// An entry's `file_type` is not its inode's kind.
+    /// Number 25, at the directory's block: in the tree file_type of an entry that names an inode is that inode's kind.
     DirentType,
-    /// A directory is named by a second entry.
+    /// Number 26, at the directory's block that has the later entry: the walk of the tree names no directory twice.
     DirParent,
-    /// An inode that a directory names has `OCFS2_ORPHANED_FL`.
+    /// Number 27, at the inode: one that the walk of the tree meets has no `OCFS2_ORPHANED_FL`.
     OrphanFlag,
-    /// An entry of an orphan directory names no orphan, or one that was named before.
+    /// Number 28, at the orphan directory's block: each live entry but the dots names an inode with `OCFS2_ORPHANED_FL` that is
+    /// not the volume's own, and over all slots no inode is named again.
     OrphanEntry,
-    /// An inode that no directory names.
+    /// Number 29, at the inode: the walk of the tree meets it, or it is one of the volume's own, or it has `OCFS2_ORPHANED_FL`
+    /// and an orphan directory names it.
     NotConnected,
-    /// A refcount tree is missing, or is not well formed.
+    /// Number 30, at the refcount block, or the inode: an inode with refcounted records has a tree; its root and leaves are
+    /// refcount blocks of this volume with lists that fit; records rise without overlap, have clusters in range, and are referred
+    /// to.
     RefTree,
-    /// The refcount records do not cover just the clusters that are shared.
+    /// Number 31, at the root of the tree: its records have just the clusters under refcounted records of its inodes, and those
+    /// of one record are all referred to equally often.
     RefCover,
-    /// An `r_refcount` is not the number of the users of its clusters.
+    /// Number 32, at the refcount block that has the record: r_refcount is how often each cluster of the record is referred to,
+    /// at most 2^32 - 1; where they are not referred to equally often, REF_COVER alone is told.
     RefCount,
-    /// An `rf_count` is not the number of the tree's inodes.
+    /// Number 33, at the root of the tree: rf_count is the number of the tree's inodes.
     RefUsers,
-    /// The index of a directory is not well formed, or does not index its entries.
+    /// Number 34, at the directory: its index is well formed, has its blocks and clusters for itself, each block of the directory
+    /// has its trailer, and entries and index entries agree in number, by block and by hash.
     Dx,
-    /// An `i_clusters` is not the number of the inode's clusters.
+    /// Number 35, at the inode: i_clusters is the number of the clusters of its records; of the global bitmap all of the
+    /// volume's, of another allocator those of its groups, of an inode without a list 0; a local alloc and a truncate log are not
+    /// asked.
     InodeClusters,
-    /// The links of an inode are not the number of the entries that name it.
+    /// Number 36, at the inode: one that the walk of the tree meets has as many links as live entries of the tree name it, the
+    /// dots among them.
     InodeCount,
-    /// A cluster has two owners.
+    /// Number 37, at the inode: no structure and no other inode claims a cluster of its records, and it maps none twice, but for
+    /// refcounted ones of itself or of one tree.
     DupClusters,
-    /// The window of a local alloc is not well formed, or is not free.
+    /// Number 38, at the dinode of the local alloc: the bitmap fits the dinode; a window that has clusters fits the bitmap and
+    /// the volume, i_used is the number of its set bits, and no earlier claim has a cluster of a clear one.
     LocalAlloc,
-    /// The records of a truncate log are not well formed, or are not free.
+    /// Number 39, at the dinode of the truncate log: the counts fit the dinode; each record is void, or its clusters are in
+    /// range, and no earlier claim or record has one of them.
     TruncateLog,
-    /// A backup of the super differs from it.
+    /// Number 40, at the backup: its signature, generation, clusters, features, root, system directory, first group, sizes,
+    /// slots, label and identifier are those of the superblock.
     BackupSuper,
-    /// The bits of an extent_alloc's group are not those of the blocks in use.
+    /// Number 41, at the group of an extent_alloc: bit 0 is set, and of the others just those of blocks in use.
     BlockAllocBit,
-    /// The bits of the global bitmap's group are not those of the clusters in use.
+    /// Number 42, at the group of the global bitmap: its set bits are just those of claimed clusters.
     ClusterAllocBit,
-    /// A `bg_chain` is not the number of the group's chain.
+    /// Number 43, at the group: bg_chain is the number of the chain that reaches it.
     GroupChain,
-    /// A `bg_free_bits_count` is not the number of the clear bits.
+    /// Number 44, at the group: bg_free_bits_count is the number of clear bits among its bits.
     GroupFreeBits,
-    /// The `c_free` or `c_total` of a chain is not the sum over its groups.
+    /// Number 45, at the allocator: c_free and c_total of each chain are the sums of bg_free_bits_count and bg_bits over its
+    /// groups.
     ChainBits,
-    /// The `i_used` or `i_total` of an allocator is not the sum over its chains.
+    /// Number 46, at the allocator: i_total is the sum of c_total over its chains, and i_used is that less the sum of c_free.
     AllocTotals,
 }
 

@@ -65,3 +65,38 @@ refcounted_extent_flag = 0x2
 -- ---- the flags of a journal
 abbrev pub dirty_journal_flag : ℕ
 dirty_journal_flag = 0x1
+
+-- ---- the flags of other structures
+-- the index's entries stand in its root, in place of a list of leaves (dr_flags)
+abbrev pub inline_index_flag : ℕ
+inline_index_flag = 0x1
+
+-- the root of a refcount tree has a list of leaf blocks in place of records (rf_flags)
+abbrev pub tree_refcount_flag : ℕ
+tree_refcount_flag = 0x2
+
+-- of a tag of a log: the block that it tells was escaped, no identifier stands behind the tag, it is the descriptor's last
+abbrev pub escaped_tag_flag : ℕ
+escaped_tag_flag = 0x1
+
+abbrev pub same_identifier_tag_flag : ℕ
+same_identifier_tag_flag = 0x2
+
+abbrev pub last_tag_flag : ℕ
+last_tag_flag = 0x8
+
+-- ---- the features of a volume and of a journal
+-- there are copies of the superblock (s_feature_compat)
+abbrev pub backup_super_feature : ℕ
+backup_super_feature = 0x1
+
+-- an entry of the slot map has 8 bytes (s_feature_incompat)
+abbrev pub extended_slot_map_feature : ℕ
+extended_slot_map_feature = 0x100
+
+-- a log may revoke writes, and its block numbers have 8 bytes (s_feature_incompat of a journal)
+abbrev pub revoke_log_feature : ℕ
+revoke_log_feature = 0x1
+
+abbrev pub wide_log_feature : ℕ
+wide_log_feature = 0x2

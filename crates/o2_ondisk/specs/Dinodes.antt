@@ -59,3 +59,28 @@ dinode_numbers x =
     ∷ x.dtime ∷ x.blkno ∷ x.last_eb_blk ∷ x.fs_generation ∷ x.atime_nsec ∷ x.ctime_nsec ∷ x.mtime_nsec ∷ x.attr
     ∷ x.orphaned_slot ∷ x.dyn_features.0 ∷ x.xattr_loc ∷ x.check ∷ x.dx_root ∷ x.refcount_loc ∷ x.suballoc_loc
     ∷ x.role_data.0 ∷ []
+
+-- where the flags of a journal stand (ij_flags), the first 4 bytes of the role's data
+abbrev pub journal_flags_place : ℕ
+journal_flags_place = 0xb8
+
+-- ---- the last part (id2 of struct ocfs2_dinode)
+-- where it begins; the superblock's part, lists, a link's text and the headers of logs stand there
+abbrev pub last_part_place : ℕ
+last_part_place = 0xc0
+
+-- where inline data begins in it (id_data of struct ocfs2_inline_data), behind the number of its bytes
+abbrev pub inline_data_place : ℕ
+inline_data_place = 0xc8
+
+-- where the records of an extent list or of a chain list begin in it (l_recs, cl_recs)
+abbrev pub list_records_place : ℕ
+list_records_place = 0xd0
+
+-- where the bitmap of a window begins in it (la_bitmap)
+abbrev pub window_bitmap_place : ℕ
+window_bitmap_place = 0xd0
+
+-- where the records of a truncate log begin in it (tl_recs)
+abbrev pub truncate_records_place : ℕ
+truncate_records_place = 0xc8

@@ -31,3 +31,10 @@ dx_root_fields =
 abbrev pub dx_root_numbers : DxRoot → List ℕ
 dx_root_numbers x =
     x.signature.0 ∷ x.suballoc_slot ∷ x.suballoc_bit ∷ x.fs_generation ∷ x.blkno ∷ x.last_eb_blk ∷ x.clusters ∷ x.flags ∷ x.dir_blkno ∷ x.num_entries ∷ x.free_blk ∷ x.suballoc_loc ∷ []
+
+-- where its list of leaves or of entries begins (dr_list, dr_entries), and where the records of a list of leaves do
+abbrev pub dx_root_list_place : ℕ
+dx_root_list_place = 0xc0
+
+abbrev pub dx_root_records_place : ℕ
+dx_root_records_place = 0xd0

@@ -1,8 +1,13 @@
 -- The letters that say what a structure is, as the numbers that their 8 bytes are.
-use Rattle.std.specs.Prelude.{ℕ}
+use Rattle.std.specs.Prelude.{◌≡◌, ℕ, [], ◌∷◌, ◌++◌, codes, refl}
+use Rattle.byteorder.specs.Endian.{little_number}
 
 abbrev pub superblock_signature : ℕ
 superblock_signature = 0x32565346434f
+
+-- it is these letters, filled up with NUL
+pub signature-is : little_number 8 (codes "OCFSV2" ++ 0 ∷ 0 ∷ []) ≡ superblock_signature
+signature-is = refl
 
 abbrev pub inode_signature : ℕ
 inode_signature = 0x313045444f4e49

@@ -11,7 +11,8 @@ use Rattle.std.specs.Option.{option_map_or}
 use Rattle.o2_model.specs.Words.{among}
 use Rattle.o2_model.specs.Dirty.{committed_writes, all_committed_writes, slot_journal}
 use Rattle.o2_model.specs.Logs.{LoggedBlock}
-use Rattle.o2_model.specs.Replay.{first_sector, puts_sector, may_put, dirty_journals, IsTornReplay, IsPartialReplay}
+use Rattle.o2_model.specs.Replay.{first_sector}
+use Rattle.o2_model.specs.TornReplays.{puts_sector, may_put, dirty_journals, IsTornReplay, IsPartialReplay}
 use Rattle.o2_cases_volumes.specs.WholeVolume.{on_device, volume_with}
 use Rattle.o2_replay_cases.specs.WholeImages.{image_with}
 use Rattle.o2_replay_cases.proofs.Fullness.{full_blocks}

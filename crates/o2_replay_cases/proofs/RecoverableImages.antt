@@ -8,7 +8,9 @@ use Rattle.o2_model.specs.Anchors.{log_fault}
 use Rattle.o2_model.specs.Consistent.{IsConsistent, failing_checks}
 use Rattle.o2_model.specs.Volume.{Volume, opened}
 use Rattle.o2_model.specs.Failing.{failing}
-use Rattle.o2_model.specs.Replay.{replayed, IsPartialReplay, IsReplayable, IsReplayStable}
+use Rattle.o2_model.specs.Replay.{replayed}
+use Rattle.o2_model.specs.TornReplays.{IsPartialReplay}
+use Rattle.o2_model.specs.Recoverable.{IsReplayable, IsReplayStable}
 use Rattle.o2_model.specs.Structures.{unsupported_structure}
 use Rattle.o2_model.specs.declared.check.Check.{Check}
 use Rattle.o2_model.proofs.Replays.{partial_self, stable_self}

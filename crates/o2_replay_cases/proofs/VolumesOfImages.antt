@@ -2,12 +2,13 @@
 use Rattle.std.proofs.Common.{◌≡◌, inl, inr, ℕ, ◌*◌, ◌/◌, ◌^◌, ◌<◌, ◌≤◌, true, ◌&&◌, ◌==◌, nat_le, List, [], length, drop, replicate, refl, sym, ◌∙◌, ap, Some, None}
 use Rattle.std.proofs.lemmas.Bool.{cases_lt, le-ltb}
 use Rattle.o2_ondisk.specs.Number.{number_at}
+use Rattle.o2_ondisk.specs.Signatures.{superblock_signature}
 use Rattle.o2_ondisk.specs.Super.{super_of}
 use Rattle.o2_disk.specs.Image.{sector, bytes_from, block_at}
 use Rattle.o2_disk.proofs.Images.{length-image_of, sector-image_of, sector_past, bytes_from-sector, bytes_from-same}
 use Rattle.o2_model.specs.Features.{unsupported_in, unsupported_feature}
 use Rattle.o2_model.specs.Geometry.{geometry_in_block}
-use Rattle.o2_model.specs.Superblock.{super_signature, has_super, superblock_bits}
+use Rattle.o2_model.specs.Superblock.{has_super, superblock_bits}
 use Rattle.o2_model.specs.Volume.{volume_of, opened}
 use Rattle.o2_cases_volumes.specs.WholeVolume.{on_device, whole_geo, volume_with}
 use Rattle.o2_replay_cases.specs.WholeImages.{IsVolume, image_with}
@@ -37,8 +38,8 @@ block_at-image_with blocks is b = elim (cases_lt b 128) [
 ]
 
 -- ---- the volume
-is_found : (sectors : ℕ) (bytes : List ℕ) → sectors ≡ 128 → number_at 0x0 8 bytes ≡ super_signature → (super_of (drop 0xc0 bytes)).blocksize_bits ≡ 9
-    → (nat_le (3 * 2 ^ 9) (512 * sectors) && number_at 0x0 8 bytes == super_signature && (super_of (drop 0xc0 bytes)).blocksize_bits == 9) ≡ true
+is_found : (sectors : ℕ) (bytes : List ℕ) → sectors ≡ 128 → number_at 0x0 8 bytes ≡ superblock_signature → (super_of (drop 0xc0 bytes)).blocksize_bits ≡ 9
+    → (nat_le (3 * 2 ^ 9) (512 * sectors) && number_at 0x0 8 bytes == superblock_signature && (super_of (drop 0xc0 bytes)).blocksize_bits == 9) ≡ true
 is_found sectors bytes size signature bits = rw (size, signature, bits) refl
 
 has_super_there : (blocks : ℕ → List ℕ) → IsVolume blocks → has_super (image_with blocks) 9 ≡ true

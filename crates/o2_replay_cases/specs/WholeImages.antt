@@ -2,14 +2,15 @@
 use Rattle.std.specs.Prelude.{◌≡◌, ℕ, Bool, true, ◌==◌, List, [], ◌∷◌, length, drop, codes, Some, None}
 use Rattle.std.specs.List.{list_all, range_with_len}
 use Rattle.o2_ondisk.specs.Number.{number_at}
+use Rattle.o2_ondisk.specs.Signatures.{superblock_signature}
 use Rattle.o2_ondisk.specs.Super.{super_of}
 use Rattle.o2_disk.specs.Image.{Image, image_of}
-use Rattle.o2_model.specs.Superblock.{super_signature}
 use Rattle.o2_model.specs.Features.{unsupported_in}
 use Rattle.o2_model.specs.Geometry.{geometry_in_block}
 use Rattle.o2_model.specs.Anchors.{anchors_of, log_fault}
 use Rattle.o2_model.specs.Dirty.{committed_writes, dirty_slots, journal_fault, slot_journal}
-use Rattle.o2_model.specs.Replay.{as_clean, dirty_journals}
+use Rattle.o2_model.specs.Replay.{as_clean}
+use Rattle.o2_model.specs.TornReplays.{dirty_journals}
 use Rattle.o2_model.specs.Checks.Super.{super_faults}
 use Rattle.o2_model.specs.Checks.Sysdir.{sysdir_faults}
 use Rattle.o2_cases_volumes.specs.DirtyVolume.{logging_block, replayed_block, stopped_block}
@@ -60,7 +61,7 @@ are_full blocks = list_all (λ s. length (on_device blocks s) == 512) (range_wit
 -- Block 2 is the superblock of the volume of 16 clusters.
 pub record IsVolume (blocks : ℕ → List ℕ) : Type 0 where
   pub full : are_full blocks ≡ true
-  pub signature : number_at 0x0 8 (on_device blocks 2) ≡ super_signature
+  pub signature : number_at 0x0 8 (on_device blocks 2) ≡ superblock_signature
   pub bits : (super_of (drop 0xc0 (on_device blocks 2))).blocksize_bits ≡ 9
   pub geometry : geometry_in_block (on_device blocks 2) ≡ whole_geo
   pub supported : unsupported_in (super_of (drop 0xc0 (on_device blocks 2))) (number_at 0x14 4 (on_device blocks 2)) ≡ None

@@ -6,7 +6,7 @@ use Rattle.o2_model.specs.Volume.{Volume}
 use Rattle.o2_model.specs.Anchors.{log_fault}
 use Rattle.o2_model.specs.Consistent.{IsConsistent}
 use Rattle.o2_model.specs.Dirty.{dirty_slots, journal_fault}
-use Rattle.o2_model.specs.Replay.{AreAnchorsApart, IsReplayable, IsReplayStable, IsRecoverable}
+use Rattle.o2_model.specs.Recoverable.{AreAnchorsApart, IsReplayable, IsReplayStable, IsRecoverable}
 use Rattle.o2_laws.proofs.NothingDirty.{consistent_clean, consistent_replayed}
 use Rattle.o2_replay_laws.proofs.Replays.{no_variant}
 use Rattle.o2_laws.proofs.Held.HeldImages.{super_holds}

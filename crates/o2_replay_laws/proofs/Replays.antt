@@ -9,7 +9,8 @@ use Rattle.o2_disk.proofs.Images.{length-written}
 use Rattle.o2_model.specs.Volume.{Volume, block_size, opened}
 use Rattle.o2_model.specs.Logs.{LoggedBlock}
 use Rattle.o2_model.specs.Dirty.{slot_journal, dirty_slots, committed_writes, all_committed_writes}
-use Rattle.o2_model.specs.Replay.{replay_slot, replay_all, replayed, may_put, puts_sector, IsTornReplay, IsPartialReplay, with_block, first_sector, as_clean, with_clean_journal}
+use Rattle.o2_model.specs.Replay.{replay_slot, replay_all, replayed, with_block, first_sector, as_clean, with_clean_journal}
+use Rattle.o2_model.specs.TornReplays.{may_put, puts_sector, IsTornReplay, IsPartialReplay}
 use Rattle.o2_laws.proofs.NothingDirty.{none_committed}
 
 -- ---- no variants

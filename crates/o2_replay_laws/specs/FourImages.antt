@@ -7,7 +7,8 @@ use Rattle.o2_model.specs.Volume.{Volume, block_size, opened}
 use Rattle.o2_model.specs.Journals.{named_journal, is_dirty}
 use Rattle.o2_model.specs.Dirty.{dirty_slots, slot_journal, committed_writes, as_logged}
 use Rattle.o2_model.specs.Anchors.{slots_in}
-use Rattle.o2_model.specs.Replay.{first_sector, replayed, IsReplayable}
+use Rattle.o2_model.specs.Replay.{first_sector, replayed}
+use Rattle.o2_model.specs.Recoverable.{IsReplayable}
 
 -- the image, with these sectors as they are in the other one
 abbrev pub with_sectors : List ℕ → Image → Image → Image

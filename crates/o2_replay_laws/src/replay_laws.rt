@@ -6,7 +6,9 @@ ghost use Rattle.o2_model.specs.Volume.{Volume, opened};
 ghost use Rattle.o2_model.specs.Consistent.{IsConsistent};
 ghost use Rattle.o2_model.specs.Logs.{Transaction};
 ghost use Rattle.o2_model.specs.Dirty.{dirty_slots, log_of, committed_writes, all_committed_writes};
-ghost use Rattle.o2_model.specs.Replay.{replayed, IsPartialReplay, IsRecoverable, IsRepairable, IsReplayable, IsReplayStable};
+ghost use Rattle.o2_model.specs.Replay.{replayed};
+ghost use Rattle.o2_model.specs.TornReplays.{IsPartialReplay};
+ghost use Rattle.o2_model.specs.Recoverable.{IsRecoverable, IsRepairable, IsReplayable, IsReplayStable};
 ghost use Rattle.o2_replay_laws.specs.FourImages.{HasOneLog, AreFourReplayable};
 
 /// A law: a consistent image has nothing to replay, so that a replay leaves it as it is.

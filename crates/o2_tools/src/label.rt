@@ -1,5 +1,6 @@
 // A volume's label.
 ghost use Rattle.std.specs.Prelude.{◌≡◌, ◌≢◌, ◌⊎◌, ◌+◌, ◌<◌, ◌≤◌, ℕ, length, true, false, take, drop, ◌++◌, OnOk, IfOk, IfErr, OnErr, MatchResult, IsErrOf, Some, None};
+ghost use Rattle.o2_ondisk.specs.Dinodes.{last_part_place};
 ghost use Rattle.o2_ondisk.specs.Fields.{paste_at};
 ghost use Rattle.o2_disk.specs.Device.{ReadsOnly, SameDevice, IsAttachedOnce, IsAttachedAtMostOnce, HasCause, Rose, IsSettled, IsWritable, LeavesOnly, Told};
 ghost use Rattle.o2_model.specs.Image.{Image};
@@ -99,7 +100,7 @@ fn put_first(field: &mut [u8], bytes: &[u8])
 
 // The sector with another label.
 fn labelled(bytes: &[u8; 512], label: &[u8; 64]) -> [u8; 512]
-    ensures { result ≡ take 0xc0 bytes.now ++ paste_at 0x50 label.now (drop 0xc0 bytes.now) }
+    ensures { result ≡ take last_part_place bytes.now ++ paste_at 0x50 label.now (drop last_part_place bytes.now) }
 {
     let mut changed = *bytes;
     write_label(&mut changed[SUPER_AT..], label);

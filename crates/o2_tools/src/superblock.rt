@@ -1,6 +1,7 @@
 // Whether a volume is served, by its superblock.
 ghost use Rattle.std.specs.Prelude.{◌≡◌};
-ghost use Rattle.o2_model.specs.Features.{has, unsupported_in};
+ghost use Rattle.o2_ondisk.specs.Bits.{has_bits};
+ghost use Rattle.o2_model.specs.Features.{unsupported_in};
 ghost use Rattle.o2_tools.specs.Answer.{is_for_later};
 
 use o2_model::Oddity;
@@ -30,7 +31,7 @@ const UNKNOWN_RO_COMPAT: u32 = 0xffff_fff8;
 const MOST_CLUSTERS: u32 = 1 << 30;
 
 fn has_any(flags: u32, mask: u32) -> bool
-    ensures { result ≡ has flags mask }
+    ensures { result ≡ has_bits flags mask }
 {
     flags & mask != 0
 }

@@ -10,7 +10,7 @@ use Rattle.o2_model.specs.declared.check.Check.TheVariants as check
 use Rattle.o2_model.specs.Volume.{Volume, over, per_cluster, blocks, volume_of}
 use Rattle.o2_model.specs.Files.{files_of}
 use Rattle.o2_model.specs.Tree.{tree_walk}
-use Rattle.o2_model.specs.Checks.Super.{is_super_dinode, has_sound_sizes, has_sound_first_group, has_sound_directories, is_sound_super, super_faults}
+use Rattle.o2_model.specs.Checks.Super.{is_super_dinode, has_sound_sizes, has_sound_first_group, has_sound_directories, has_sound_numbers, is_sound_super, super_faults}
 use Rattle.o2_model.specs.Failing.{faults, failing}
 use Rattle.o2_laws.proofs.Held.HeldBlocks.{is_held}
 use Rattle.o2_laws.proofs.Held.HeldBlocks.{AgreesOnHeld}
@@ -28,9 +28,10 @@ super_holds v none = no_check_fails v none check.Super
 sound_first : (v : Volume) → is_sound_super v ≡ true → has_sound_first_group v ≡ true
 unfolding is_sound_super
 sound_first v h =
-    let without = (and_parts (is_super_dinode v && has_sound_sizes v && has_sound_first_group v && nat_le (blocks v) v.on_device) (has_sound_directories v) h).0 in
-    let three = (and_parts (is_super_dinode v && has_sound_sizes v && has_sound_first_group v) (nat_le (blocks v) v.on_device) without).0 in
-    (and_parts (is_super_dinode v && has_sound_sizes v) (has_sound_first_group v) three).1
+    let numbers = (and_parts (is_super_dinode v) (has_sound_numbers v) h).1 in
+    let without = (and_parts (has_sound_sizes v && has_sound_first_group v && nat_le (blocks v) v.on_device) (has_sound_directories v) numbers).0 in
+    let two = (and_parts (has_sound_sizes v && has_sound_first_group v) (nat_le (blocks v) v.on_device) without).0 in
+    (and_parts (has_sound_sizes v) (has_sound_first_group v) two).1
 
 behind_super : (v : Volume) → has_sound_first_group v ≡ true → 3 ≤ v.geo.first_group
 behind_super v h = grind (arith, nat_tests)

@@ -11,7 +11,7 @@ use Rattle.o2_model.specs.declared.system_file.SystemFile.TheVariants.{OfSlot}
 use Rattle.o2_model.specs.Volume.{Volume}
 use Rattle.o2_model.specs.Clusters.{cluster_of}
 use Rattle.o2_model.specs.SystemFiles.{system_inode}
-use Rattle.o2_model.specs.Slots.{truncate_records}
+use Rattle.o2_model.specs.TruncateLogs.{truncate_records}
 use Rattle.o2_model.specs.Indexes.{indexed_directories}
 use Rattle.o2_model.specs.Claims.{structure_claims, inode_claims, with_index, claims_with_indexes, with_window_of, with_window, claims_with_windows, with_truncation, with_truncate_log, claims_with_truncations, claims_of}
 use Rattle.o2_model.specs.Owned.{needs_bytes, is_owned}

@@ -11,7 +11,8 @@ use Rattle.o2_model.specs.declared.check.Check.TheVariants as check
 use Rattle.o2_model.specs.declared.system_file.SlotFile.TheVariants.{OrphanDir, ExtentAlloc, InodeAlloc, Journal, LocalAlloc, TruncateLog}
 use Rattle.o2_model.specs.declared.system_file.SystemFile.{SystemFile}
 use Rattle.o2_model.specs.declared.system_file.SystemFile.TheVariants.{BadBlocks, GlobalInodeAlloc, SlotMap, Heartbeat, GlobalBitmap, OfSlot}
-use Rattle.o2_model.specs.Words.{among, fails_unless, fails_at}
+use Rattle.o2_model.specs.Words.{among}
+use Rattle.o2_model.specs.Faults.{fails_unless, fails_at}
 use Rattle.o2_model.specs.Volume.{Volume, is_valid}
 use Rattle.o2_model.specs.Inodes.{kind, is_directory, is_directory_kind, is_file, is_file_kind}
 use Rattle.o2_model.specs.Directories.{Entry, directory_entries, is_dot, is_named, first_named, own_inodes}

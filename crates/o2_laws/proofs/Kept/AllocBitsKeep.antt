@@ -6,7 +6,8 @@ use Rattle.std.specs.List.{list_all, range_with_len}
 use Rattle.o2_model.specs.declared.check.Check.TheVariants as check
 use Rattle.o2_model.specs.declared.allocator.Group.{Group}
 use Rattle.o2_model.specs.declared.claim.Claim.{Claim}
-use Rattle.o2_model.specs.Words.{among, fails_at}
+use Rattle.o2_model.specs.Words.{among}
+use Rattle.o2_model.specs.Faults.{fails_at}
 use Rattle.o2_model.specs.Orders.{from_to}
 use Rattle.o2_model.specs.Volume.{Volume, over}
 use Rattle.o2_model.specs.Allocators.{are_metadata}

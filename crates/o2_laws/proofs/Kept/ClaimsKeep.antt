@@ -13,7 +13,8 @@ use Rattle.o2_model.specs.LeafRecords.{clusters_under}
 use Rattle.o2_model.specs.SystemFiles.{system_inode}
 use Rattle.o2_model.specs.Groups.{GroupWalk, is_of_clusters, inodes_of}
 use Rattle.o2_model.specs.Indexes.{indexed_directories}
-use Rattle.o2_model.specs.Slots.{window_clusters, is_sound_window, is_sound_truncate_header, truncate_records, is_sound_truncation}
+use Rattle.o2_model.specs.Windows.{window_clusters, is_sound_window}
+use Rattle.o2_model.specs.TruncateLogs.{is_sound_truncate_header, truncate_records, is_sound_truncation}
 use Rattle.o2_model.specs.Claims.{claims_by, structure_claims, clusters_of, inode_claims, with_index, claims_before_index, claims_with_indexes, with_window_of, with_window, claims_with_windows, with_truncation, with_truncate_log, claims_with_truncations, claims_of}
 use Rattle.o2_model.specs.Failing.{failing}
 use Rattle.o2_laws.proofs.Held.HeldBlocks.{AgreesOnHeld}

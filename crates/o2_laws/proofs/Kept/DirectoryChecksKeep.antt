@@ -3,7 +3,7 @@
 use Rattle.std.proofs.Common.{◌≡◌, ℕ, List, [], map, ◌∙◌, ap}
 use Rattle.std.specs.Prelude.{flat_map, filter}
 use Rattle.o2_model.specs.declared.check.Check.TheVariants as check
-use Rattle.o2_model.specs.Words.{fails_at}
+use Rattle.o2_model.specs.Faults.{fails_at}
 use Rattle.o2_model.specs.Orders.{later_like}
 use Rattle.o2_model.specs.Volume.{Volume, over}
 use Rattle.o2_model.specs.Inodes.{is_directory}

@@ -3,9 +3,10 @@ use Rattle.std.proofs.Common.{◌≡◌, ℕ, List, [], ◌∙◌, ap}
 use Rattle.std.specs.Prelude.{filter}
 use Rattle.std.specs.List.{Contains}
 use Rattle.o2_model.specs.declared.check.Check.TheVariants as check
-use Rattle.o2_model.specs.Words.{fails_at}
+use Rattle.o2_model.specs.Faults.{fails_at}
 use Rattle.o2_model.specs.Volume.{Volume, over}
-use Rattle.o2_model.specs.Indexes.{indexed_directories, is_sound_index}
+use Rattle.o2_model.specs.Indexes.{indexed_directories}
+use Rattle.o2_model.specs.SoundIndexes.{is_sound_index}
 use Rattle.o2_model.specs.Claims.{claims_before_index, claimed_clusters}
 use Rattle.o2_model.specs.Checks.Dx.{holds_index, directories_with_sound_index}
 use Rattle.o2_model.specs.Failing.{faults, failing}

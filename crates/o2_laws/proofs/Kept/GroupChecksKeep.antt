@@ -9,7 +9,8 @@ use Rattle.o2_model.specs.declared.allocator.Allocator.{Allocator}
 use Rattle.o2_model.specs.declared.allocator.Group.{Group}
 use Rattle.o2_ondisk.specs.GroupDescs.{group_desc_of}
 use Rattle.o2_ondisk.specs.declared.chain_rec.ChainRec.{ChainRec}
-use Rattle.o2_model.specs.Words.{among, those_not, fails_at}
+use Rattle.o2_model.specs.Words.{among}
+use Rattle.o2_model.specs.Faults.{those_not, fails_at}
 use Rattle.o2_model.specs.Orders.{from_to}
 use Rattle.o2_model.specs.Volume.{Volume, over}
 use Rattle.o2_model.specs.Allocators.{are_inodes, allocators, is_sound_chain_header, chains}

@@ -9,7 +9,8 @@ use Rattle.o2_model.specs.declared.claim.Owner.TheVariants.{Index}
 use Rattle.o2_model.specs.Words.{among}
 use Rattle.o2_model.specs.Volume.{Volume, blocks}
 use Rattle.o2_model.specs.Groups.{inodes_of}
-use Rattle.o2_model.specs.Indexes.{is_indexed, indexed_directories, index_extents, index_clusters, index_leaves, is_sound_index}
+use Rattle.o2_model.specs.Indexes.{is_indexed, indexed_directories, index_extents, index_clusters, index_leaves}
+use Rattle.o2_model.specs.SoundIndexes.{is_sound_index}
 use Rattle.o2_model.specs.Claims.{claims_by, claimed_clusters, structure_claims, inode_claims, with_index, claims_before_index, claims_with_indexes}
 use Rattle.o2_model.specs.Failing.{failing}
 use Rattle.o2_laws.proofs.Held.HeldBlocks.{is_held}

@@ -8,7 +8,7 @@ use Rattle.o2_ondisk.specs.declared.kind.Kind.{Kind}
 use Rattle.o2_ondisk.specs.declared.kind.Kind.TheVariants.{File, Directory, Character, Block, Fifo, Socket, Link}
 use Rattle.o2_model.specs.declared.check.Check.TheVariants as check
 use Rattle.o2_model.specs.declared.allocator.Allocator.{Allocator}
-use Rattle.o2_model.specs.Words.{fails_unless}
+use Rattle.o2_model.specs.Faults.{fails_unless}
 use Rattle.o2_model.specs.Volume.{Volume, over, per_cluster}
 use Rattle.o2_model.specs.Extents.{Extents, leaf_clusters}
 use Rattle.o2_model.specs.Inodes.{kind, is_directory, is_directory_kind, is_inline, extents, leaf_records}

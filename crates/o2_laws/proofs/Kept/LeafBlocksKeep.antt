@@ -4,7 +4,7 @@ use Rattle.std.specs.Prelude.{filter, flat_map, fold}
 use Rattle.std.specs.List.{Contains}
 use Rattle.std.proofs.lemmas.List.Elements.{Contains-append_cases}
 use Rattle.o2_model.specs.declared.check.Check.TheVariants as check
-use Rattle.o2_model.specs.Words.{fails_at, fails_unless}
+use Rattle.o2_model.specs.Faults.{fails_at, fails_unless}
 use Rattle.o2_model.specs.Volume.{Volume, over, dinode}
 use Rattle.o2_model.specs.Extents.{Extents, extent_block, list_in_block}
 use Rattle.o2_model.specs.Inodes.{extents, has_list, extent_lists_of}

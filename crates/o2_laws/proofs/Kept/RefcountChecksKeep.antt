@@ -3,7 +3,8 @@ use Rattle.std.proofs.Common.{◌≡◌, ℕ, ◌%◌, ◌^◌, Bool, ◌&&◌, 
 use Rattle.std.specs.Prelude.{filter, flat_map}
 use Rattle.std.specs.List.{Contains, list_any, list_all}
 use Rattle.o2_model.specs.declared.check.Check.TheVariants as check
-use Rattle.o2_model.specs.Words.{fails_at, fails_unless, among}
+use Rattle.o2_model.specs.Faults.{fails_at, fails_unless}
+use Rattle.o2_model.specs.Words.{among}
 use Rattle.o2_model.specs.Volume.{Volume, over}
 use Rattle.o2_model.specs.LeafRecords.{is_refcounted}
 use Rattle.o2_model.specs.Files.{shared_references}

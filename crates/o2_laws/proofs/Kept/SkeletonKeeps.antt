@@ -7,7 +7,7 @@ use Rattle.std.specs.Option.{option_map_or}
 use Rattle.std.proofs.lemmas.Bool.{cases_Bool}
 use Rattle.o2_model.specs.declared.check.Check.TheVariants as check
 use Rattle.o2_model.specs.declared.system_file.SystemFile.TheVariants.{SlotMap}
-use Rattle.o2_model.specs.Words.{fails_unless, fails_at}
+use Rattle.o2_model.specs.Faults.{fails_unless, fails_at}
 use Rattle.o2_model.specs.Orders.{later_like, is_none_of}
 use Rattle.o2_model.specs.Volume.{Volume, over, is_valid}
 use Rattle.o2_model.specs.Inodes.{is_directory, is_file, extents, leaf_records}

@@ -6,10 +6,11 @@ use Rattle.o2_model.specs.declared.check.Check.TheVariants as check
 use Rattle.o2_model.specs.declared.claim.Claim.{Claim}
 use Rattle.o2_model.specs.declared.system_file.SlotFile.TheVariants.{LocalAlloc, TruncateLog}
 use Rattle.o2_model.specs.declared.system_file.SystemFile.TheVariants.{OfSlot}
-use Rattle.o2_model.specs.Words.{fails_unless}
+use Rattle.o2_model.specs.Faults.{fails_unless}
 use Rattle.o2_model.specs.Volume.{Volume, over}
 use Rattle.o2_model.specs.SystemFiles.{system_inode, slots}
-use Rattle.o2_model.specs.Slots.{is_sound_window, is_sound_truncate_header, truncate_records, is_sound_truncation}
+use Rattle.o2_model.specs.Windows.{is_sound_window}
+use Rattle.o2_model.specs.TruncateLogs.{is_sound_truncate_header, truncate_records, is_sound_truncation}
 use Rattle.o2_model.specs.Claims.{claims_with_windows, claims_with_truncations, with_truncation, claimed_clusters}
 use Rattle.o2_model.specs.Checks.LocalAlloc.{local_alloc_faults_of}
 use Rattle.o2_model.specs.Checks.TruncateLog.{are_sound_truncations, is_sound_truncate_log, truncate_log_faults_of}

@@ -7,7 +7,7 @@ use Rattle.o2_ondisk.specs.Dinodes.{dinode_of}
 use Rattle.o2_ondisk.specs.Kinds.{type_of_kind}
 use Rattle.o2_ondisk.specs.declared.kind.Kind.{Kind}
 use Rattle.o2_model.specs.declared.check.Check.TheVariants as check
-use Rattle.o2_model.specs.Words.{fails_at}
+use Rattle.o2_model.specs.Faults.{fails_at}
 use Rattle.o2_model.specs.Volume.{Volume, over, dinode}
 use Rattle.o2_model.specs.Directories.{Entry, is_named, named_entries}
 use Rattle.o2_model.specs.Files.{links_of}

@@ -1,11 +1,10 @@
 -- ALLOC_TOTALS, number 46, at the allocator: i_total is the sum of c_total over its chains, and i_used is that less the sum of
--- c_free, both modulo 2^32.
+-- c_free.
 use Rattle.std.specs.Prelude.{ℕ, ◌+◌, ◌%◌, ◌^◌, Bool, ◌&&◌, ◌==◌, List, sum_by}
 use Rattle.o2_model.specs.declared.allocator.Allocator.{Allocator}
-use Rattle.o2_model.specs.Words.{fails_at}
+use Rattle.o2_model.specs.Faults.{fails_at}
 use Rattle.o2_model.specs.Volume.{Volume, dinode}
-use Rattle.o2_model.specs.Allocators.{allocators, chains}
-use Rattle.o2_model.specs.Slots.{used_of, total_of}
+use Rattle.o2_model.specs.Allocators.{allocators, chains, used_of, total_of}
 
 abbrev pub sum_of_totals : Volume → Allocator → ℕ
 sum_of_totals v a = sum_by (λ r. r.total) (chains v a)

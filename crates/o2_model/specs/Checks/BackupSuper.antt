@@ -1,14 +1,16 @@
--- BACKUP_SUPER, number 40, at the backup: what it says of the volume is what the superblock says.
+-- BACKUP_SUPER, number 40, at the backup: its signature, generation, clusters, features, root, system directory, first group,
+-- sizes, slots, label and identifier are those of the superblock.
 use Rattle.std.specs.Prelude.{ℕ, ◌*◌, Bool, ◌&&◌, ◌==◌, List, map, drop, bytes_eq}
+use Rattle.o2_ondisk.specs.Dinodes.{last_part_place}
 use Rattle.o2_ondisk.specs.Super.{super_of}
 use Rattle.o2_ondisk.specs.declared.superblock.Super.{Super}
-use Rattle.o2_model.specs.Words.{fails_at}
+use Rattle.o2_model.specs.Faults.{fails_at}
 use Rattle.o2_model.specs.Volume.{Volume, per_cluster, dinode}
 use Rattle.o2_model.specs.ClusterGroups.{backup_clusters}
 
 -- the superblock's part of a block (struct ocfs2_super_block)
 abbrev pub super_part : Volume → ℕ → Super
-super_part v b = super_of (drop 0xc0 (v.at b))
+super_part v b = super_of (drop last_part_place (v.at b))
 
 abbrev pub has_same_features : Super → Super → Bool
 has_same_features s t =

@@ -3,7 +3,8 @@ use Rattle.std.specs.Prelude.{ℕ, Bool, ◌&&◌, List, ◌++◌, flat_map, fil
 use Rattle.std.specs.Bool.{beq}
 use Rattle.std.specs.List.{list_all}
 use Rattle.o2_model.specs.declared.allocator.Group.{Group}
-use Rattle.o2_model.specs.Words.{among, fails_at}
+use Rattle.o2_model.specs.Words.{among}
+use Rattle.o2_model.specs.Faults.{fails_at}
 use Rattle.o2_model.specs.Orders.{from_to}
 use Rattle.o2_model.specs.Volume.{Volume}
 use Rattle.o2_model.specs.Allocators.{are_metadata}

@@ -1,8 +1,8 @@
--- DIR_BLOCK, number 20, at the directory's block: entries (struct ocfs2_dir_entry) fill it, and in the first block they begin with
--- `.` and `..`.
+-- DIR_BLOCK, number 20, at the directory's block: entries fill it, and in the directory's first block the first two are live, and
+-- named `.` and `..`.
 use Rattle.std.specs.Prelude.{ℕ, Bool, false, ◌&&◌, ◌||◌, not, ◌==◌, List, ◌∷◌, codes, bytes_eq}
 use Rattle.std.specs.Option.{option_map_or}
-use Rattle.o2_model.specs.Words.{fails_at}
+use Rattle.o2_model.specs.Faults.{fails_at}
 use Rattle.o2_model.specs.Volume.{Volume}
 use Rattle.o2_model.specs.Directories.{NamedEntry, is_live, DirBlock, dir_blocks}
 

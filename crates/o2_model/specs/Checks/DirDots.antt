@@ -1,7 +1,7 @@
--- DIR_DOTS, number 23, at the directory's block: in the tree `.` names the directory and `..` its parent, and neither stands
--- there again. A missing one is DIR_BLOCK's alone.
+-- DIR_DOTS, number 23, at the directory's block: in the tree the first `.` names the directory, the first `..` its parent, and
+-- there are no further ones; of a missing one DIR_BLOCK alone is told.
 use Rattle.std.specs.Prelude.{ℕ, ◌==◌, List, [], ◌∷◌, ◌++◌, map, flat_map, filter, codes}
-use Rattle.o2_model.specs.Words.{fails_unless}
+use Rattle.o2_model.specs.Faults.{fails_unless}
 use Rattle.o2_model.specs.Volume.{Volume}
 use Rattle.o2_model.specs.Directories.{Entry, directory_entries, is_named}
 use Rattle.o2_model.specs.Tree.{Entered, tree_walk}

@@ -1,4 +1,4 @@
--- DIR_PARENT, number 26, at the directory block of the later entry: the walk of the tree names no directory twice.
+-- DIR_PARENT, number 26, at the directory's block that has the later entry: the walk of the tree names no directory twice.
 use Rattle.std.specs.Prelude.{ℕ, List}
 use Rattle.o2_model.specs.Volume.{Volume}
 use Rattle.o2_model.specs.Tree.{tree_walk}

@@ -1,5 +1,4 @@
--- DIRENT_DUP, number 22, at the block of the later entry: no two live entries of a directory have one name. Of the dots
--- another check is told.
+-- DIRENT_DUP, number 22, at the directory's block that has the later entry: no two live entries but the dots have one name.
 use Rattle.std.specs.Prelude.{ℕ, Bool, List, map}
 use Rattle.o2_model.specs.Orders.{later_like}
 use Rattle.o2_model.specs.Volume.{Volume}

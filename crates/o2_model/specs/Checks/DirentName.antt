@@ -1,6 +1,7 @@
 -- DIRENT_NAME, number 21, at the directory's block: the name of each live entry has 1 to 255 bytes, none of them a slash or NUL.
 use Rattle.std.specs.Prelude.{ℕ, Bool, ◌&&◌, not, nat_le, List, length}
-use Rattle.o2_model.specs.Words.{among, fails_at}
+use Rattle.o2_model.specs.Words.{among}
+use Rattle.o2_model.specs.Faults.{fails_at}
 use Rattle.o2_model.specs.Volume.{Volume}
 use Rattle.o2_model.specs.Directories.{directory_entries}
 

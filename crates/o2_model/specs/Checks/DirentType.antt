@@ -1,8 +1,8 @@
--- DIRENT_TYPE, number 25, at the directory block of the entry: in the tree file_type is the kind of the inode that the entry names.
+-- DIRENT_TYPE, number 25, at the directory's block: in the tree file_type of an entry that names an inode is that inode's kind.
 use Rattle.std.specs.Prelude.{ℕ, Bool, false, ◌==◌, List, filter}
 use Rattle.std.specs.Option.{option_map_or}
 use Rattle.o2_ondisk.specs.Kinds.{type_of_kind}
-use Rattle.o2_model.specs.Words.{fails_at}
+use Rattle.o2_model.specs.Faults.{fails_at}
 use Rattle.o2_model.specs.Volume.{Volume}
 use Rattle.o2_model.specs.Inodes.{kind}
 use Rattle.o2_model.specs.Directories.{Entry}

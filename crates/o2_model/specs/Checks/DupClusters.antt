@@ -1,9 +1,9 @@
--- DUP_CLUSTERS, number 37, at the inode: no structure and no other inode claims a cluster of its records, and it maps each
--- cluster once. Refcounted clusters may be mapped again, by the same inode or by those of one tree.
+-- DUP_CLUSTERS, number 37, at the inode: no structure and no other inode claims a cluster of its records, and it maps none twice,
+-- but for refcounted ones of itself or of one tree.
 use Rattle.std.specs.Prelude.{ℕ, Bool, ◌&&◌, ◌||◌, not, ◌==◌, List, map, flat_map, filter, length}
 use Rattle.std.specs.List.{list_all}
 use Rattle.o2_ondisk.specs.declared.extent_rec.ExtentRec.{ExtentRec}
-use Rattle.o2_model.specs.Words.{fails_at}
+use Rattle.o2_model.specs.Faults.{fails_at}
 use Rattle.o2_model.specs.Volume.{Volume, dinode}
 use Rattle.o2_model.specs.Inodes.{records_of}
 use Rattle.o2_model.specs.Groups.{inodes_of}

@@ -1,8 +1,10 @@
--- DX, number 34, at the directory: its index is well formed, has its blocks and clusters for itself, and finds each entry.
+-- DX, number 34, at the directory: its index is well formed, has its blocks and clusters for itself, each block of the directory
+-- has its trailer, and entries and index entries agree in number, by block and by hash.
 use Rattle.std.specs.Prelude.{ℕ, Bool, List, filter}
-use Rattle.o2_model.specs.Words.{fails_at}
+use Rattle.o2_model.specs.Faults.{fails_at}
 use Rattle.o2_model.specs.Volume.{Volume}
-use Rattle.o2_model.specs.Indexes.{indexed_directories, is_sound_index}
+use Rattle.o2_model.specs.Indexes.{indexed_directories}
+use Rattle.o2_model.specs.SoundIndexes.{is_sound_index}
 use Rattle.o2_model.specs.Claims.{claims_before_index, claimed_clusters}
 
 -- the index holds, as the claims before it are

@@ -1,6 +1,6 @@
 -- EB_NEXT, number 17, at the extent block: h_next_leaf_blk of a leaf is the next leaf of its tree, or 0 in the last one.
 use Rattle.std.specs.Prelude.{ℕ, ◌==◌, List, [], ◌∷◌, ◌++◌, filter, flat_map}
-use Rattle.o2_model.specs.Words.{fails_unless}
+use Rattle.o2_model.specs.Faults.{fails_unless}
 use Rattle.o2_model.specs.Volume.{Volume}
 use Rattle.o2_model.specs.Extents.{Extents, extent_block, list_in_block}
 use Rattle.o2_model.specs.Inodes.{extent_lists_of}

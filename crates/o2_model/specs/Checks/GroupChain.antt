@@ -1,6 +1,6 @@
 -- GROUP_CHAIN, number 43, at the group: bg_chain is the number of the chain that reaches it.
 use Rattle.std.specs.Prelude.{ℕ, ◌==◌, List}
-use Rattle.o2_model.specs.Words.{fails_at}
+use Rattle.o2_model.specs.Faults.{fails_at}
 use Rattle.o2_model.specs.Volume.{Volume}
 use Rattle.o2_model.specs.Groups.{groups, group_desc}
 

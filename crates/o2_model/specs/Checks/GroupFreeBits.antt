@@ -2,7 +2,7 @@
 use Rattle.std.specs.Prelude.{ℕ, Bool, not, ◌==◌, List, count_by}
 use Rattle.std.specs.List.{range_with_len}
 use Rattle.o2_model.specs.declared.allocator.Group.{Group}
-use Rattle.o2_model.specs.Words.{fails_at}
+use Rattle.o2_model.specs.Faults.{fails_at}
 use Rattle.o2_model.specs.Volume.{Volume}
 use Rattle.o2_model.specs.Groups.{groups, group_desc, is_bit_set}
 

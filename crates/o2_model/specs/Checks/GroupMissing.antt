@@ -1,7 +1,8 @@
--- GROUP_MISSING, number 10, at the place of the group: the walk reaches every group of the global bitmap.
+-- GROUP_MISSING, number 10, at the place of the group: the walk reaches each group of the global bitmap.
 use Rattle.std.specs.Prelude.{ℕ, Bool, List, map, filter}
 use Rattle.std.specs.List.{range_with_len}
-use Rattle.o2_model.specs.Words.{among, those_not}
+use Rattle.o2_model.specs.Words.{among}
+use Rattle.o2_model.specs.Faults.{those_not}
 use Rattle.o2_model.specs.Volume.{Volume}
 use Rattle.o2_model.specs.ClusterGroups.{group_count, group_place}
 use Rattle.o2_model.specs.Groups.{groups, is_of_clusters}

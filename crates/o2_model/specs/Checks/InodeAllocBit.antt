@@ -1,8 +1,8 @@
--- INODE_ALLOC_BIT, number 11, at the group: bit 0 of a group of inodes is set, and each further set bit stands for an inode.
+-- INODE_ALLOC_BIT, number 11, at the group of inodes: bit 0 is set, and each further set bit stands for an inode.
 use Rattle.std.specs.Prelude.{ℕ, Bool, ◌&&◌, ◌||◌, not, List, filter}
 use Rattle.std.specs.List.{list_all}
 use Rattle.o2_model.specs.declared.allocator.Group.{Group}
-use Rattle.o2_model.specs.Words.{fails_at}
+use Rattle.o2_model.specs.Faults.{fails_at}
 use Rattle.o2_model.specs.Orders.{from_to}
 use Rattle.o2_model.specs.Volume.{Volume}
 use Rattle.o2_model.specs.Allocators.{are_inodes}

@@ -1,10 +1,11 @@
--- INODE_CLUSTERS, number 35, at the inode: i_clusters is the number of its clusters. An inode without a list has 0, but that of
--- an allocator tells the clusters of its groups. A local alloc and a truncate log are not asked.
-use Rattle.std.specs.Prelude.{ℕ, ◌/◌, ◌%◌, ◌^◌, Bool, ◌||◌, ◌==◌, List, sum_by, find, if◌then◌else◌}
+-- INODE_CLUSTERS, number 35, at the inode: i_clusters is the number of the clusters of its records; of the global bitmap all of
+-- the volume's, of another allocator those of its groups, of an inode without a list 0; a local alloc and a truncate log are not
+-- asked.
+use Rattle.std.specs.Prelude.{ℕ, ◌+◌, ◌/◌, ◌%◌, ◌^◌, Bool, ◌||◌, ◌==◌, List, sum_by, find, if◌then◌else◌}
 use Rattle.std.specs.Option.{option_map_or}
-use Rattle.o2_ondisk.specs.Bits.{has_bits}
+use Rattle.o2_ondisk.specs.Bits.{has_bits, local_alloc_inode_flag, dealloc_inode_flag}
 use Rattle.o2_model.specs.declared.allocator.Allocator.{Allocator}
-use Rattle.o2_model.specs.Words.{fails_unless}
+use Rattle.o2_model.specs.Faults.{fails_unless}
 use Rattle.o2_model.specs.Volume.{Volume, per_cluster, dinode}
 use Rattle.o2_model.specs.Extents.{leaf_clusters}
 use Rattle.o2_model.specs.Inodes.{leaf_records}
@@ -24,7 +25,7 @@ cluster_total v b =
 
 -- `OCFS2_LOCAL_ALLOC_FL` and `OCFS2_DEALLOC_FL` of i_flags
 abbrev pub unasked_flags : ℕ
-unasked_flags = 0x840
+unasked_flags = local_alloc_inode_flag + dealloc_inode_flag
 
 unfoldable pub has_cluster_total : Volume → ℕ → Bool
 has_cluster_total v b =

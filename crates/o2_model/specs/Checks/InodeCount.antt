@@ -1,7 +1,7 @@
--- INODE_COUNT, number 36, at the inode: the links of one that the walk of the tree meets are the live entries of the tree that
--- name it, `.` and `..` among them.
+-- INODE_COUNT, number 36, at the inode: one that the walk of the tree meets has as many links as live entries of the tree name
+-- it, the dots among them.
 use Rattle.std.specs.Prelude.{ℕ, ◌%◌, ◌^◌, ◌==◌, List}
-use Rattle.o2_model.specs.Words.{fails_at}
+use Rattle.o2_model.specs.Faults.{fails_at}
 use Rattle.o2_model.specs.Volume.{Volume, dinode}
 use Rattle.o2_model.specs.Files.{links_of}
 use Rattle.o2_model.specs.Tree.{met_inodes, link_count}

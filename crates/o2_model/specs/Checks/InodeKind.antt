@@ -1,7 +1,7 @@
 -- INODE_KIND, number 13, at the inode: i_mode has one of the seven kinds.
 use Rattle.std.specs.Prelude.{ℕ, Bool, true, false, List}
 use Rattle.std.specs.Option.{option_map_or}
-use Rattle.o2_model.specs.Words.{fails_unless}
+use Rattle.o2_model.specs.Faults.{fails_unless}
 use Rattle.o2_model.specs.Volume.{Volume}
 use Rattle.o2_model.specs.Inodes.{kind}
 

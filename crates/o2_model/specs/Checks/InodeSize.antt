@@ -1,10 +1,14 @@
--- INODE_SIZE, number 19, at the inode: i_size fits what the inode is, and where its data stands.
+-- INODE_SIZE, number 19, at the inode: i_size fits the inline data, and that the dinode; a directory has whole blocks, at least
+-- one, all mapped and written; a link has a text, in the dinode or in cluster 0; a file ends within the clusters that have a
+-- number, unless it is one of the volume's own.
 use Rattle.std.specs.Prelude.{ℕ, ◌*◌, ◌/◌, ◌%◌, ◌^◌, ◌-◌, Bool, true, ◌&&◌, ◌||◌, ◌==◌, nat_lt, nat_le, List, length, Option, Some, if◌then◌else◌}
 use Rattle.std.specs.List.{list_any}
+use Rattle.o2_ondisk.specs.Dinodes.{last_part_place}
 use Rattle.o2_ondisk.specs.Number.{number_at}
 use Rattle.o2_ondisk.specs.declared.kind.Kind.{Kind}
 use Rattle.o2_ondisk.specs.declared.kind.Kind.TheVariants.{File, Directory, Link}
-use Rattle.o2_model.specs.Words.{among, fails_unless}
+use Rattle.o2_model.specs.Words.{among}
+use Rattle.o2_model.specs.Faults.{fails_unless}
 use Rattle.o2_model.specs.Volume.{Volume, block_size, dinode}
 use Rattle.o2_model.specs.Clusters.{cluster_size}
 use Rattle.o2_model.specs.Inodes.{kind, is_inline, is_fast_link, leaf_records}
@@ -14,8 +18,8 @@ use Rattle.o2_model.specs.Contents.{maps_cluster}
 -- i_size fits the inline bytes, and these fit the dinode (id_count of struct ocfs2_inline_data)
 abbrev pub is_inline_size : Volume → ℕ → Bool
 is_inline_size v b =
-    nat_le (dinode v b).size (number_at 0xc0 2 (v.at b))
-    && nat_le (number_at 0xc0 2 (v.at b)) (inline_room v)
+    nat_le (dinode v b).size (number_at last_part_place 2 (v.at b))
+    && nat_le (number_at last_part_place 2 (v.at b)) (inline_room v)
 
 -- a directory has whole blocks, all mapped and written
 abbrev pub is_directory_size : Volume → ℕ → Bool
@@ -28,7 +32,7 @@ is_directory_size v b =
 abbrev pub is_link_size : Volume → ℕ → Bool
 is_link_size v b =
     nat_lt 0 (dinode v b).size
-    && (if is_fast_link v b then nat_lt (dinode v b).size (block_size v - 192) else list_any (maps_cluster 0) (leaf_records v b))
+    && (if is_fast_link v b then nat_lt (dinode v b).size (block_size v - last_part_place) else list_any (maps_cluster 0) (leaf_records v b))
 
 -- a file ends within the clusters that have a number; of the volume's own files this is not asked
 abbrev pub is_file_size : Volume → ℕ → Bool

@@ -1,6 +1,7 @@
--- JOURNAL, number 6, at the journal: its clusters follow one another from its cluster 0 on, and it begins with a superblock.
+-- JOURNAL, number 6, at the journal: EXTENT holds; it has clusters, which follow one another from its cluster 0 on and have no
+-- flags; its superblock has the magic, the type, the volume's block size, bounds that fit, and no features but REVOKE and 64BIT.
 use Rattle.std.specs.Prelude.{ℕ, Bool, ◌&&◌, not, List}
-use Rattle.o2_model.specs.Words.{fails_at}
+use Rattle.o2_model.specs.Faults.{fails_at}
 use Rattle.o2_model.specs.Orders.{is_none_of}
 use Rattle.o2_model.specs.Volume.{Volume}
 use Rattle.o2_model.specs.Inodes.{leaf_records}

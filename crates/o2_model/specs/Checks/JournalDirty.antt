@@ -1,6 +1,6 @@
 -- JOURNAL_DIRTY, number 8, at the journal: its flag `OCFS2_JOURNAL_DIRTY_FL` is clear.
 use Rattle.std.specs.Prelude.{ℕ, not, List}
-use Rattle.o2_model.specs.Words.{fails_at}
+use Rattle.o2_model.specs.Faults.{fails_at}
 use Rattle.o2_model.specs.Volume.{Volume}
 use Rattle.o2_model.specs.Journals.{journals, is_dirty}
 

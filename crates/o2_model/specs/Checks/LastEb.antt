@@ -1,7 +1,7 @@
--- LAST_EB, number 18, at the dinode or refcount root that has the list: i_last_eb_blk, or rf_last_eb_blk, is the last leaf block
--- of the list, or 0 where it has none.
+-- LAST_EB, number 18, at the dinode or the refcount root that has the list: i_last_eb_blk, or rf_last_eb_blk, is the last leaf
+-- block of the list, or 0 where it has none.
 use Rattle.std.specs.Prelude.{ℕ, ◌==◌, List, ◌++◌, filter, fold}
-use Rattle.o2_model.specs.Words.{fails_at}
+use Rattle.o2_model.specs.Faults.{fails_at}
 use Rattle.o2_model.specs.Volume.{Volume, dinode}
 use Rattle.o2_model.specs.Extents.{Extents}
 use Rattle.o2_model.specs.Inodes.{extents, has_list}

@@ -1,6 +1,6 @@
 -- META_BLOCK, number 15, at the extent block or refcount block: it is from an extent_alloc, and is used once.
 use Rattle.std.specs.Prelude.{ℕ, Bool, ◌&&◌, ◌==◌, List}
-use Rattle.o2_model.specs.Words.{fails_at}
+use Rattle.o2_model.specs.Faults.{fails_at}
 use Rattle.o2_model.specs.Volume.{Volume}
 use Rattle.o2_model.specs.Files.{times_in}
 use Rattle.o2_model.specs.Metadata.{metadata_blocks, is_on_metadata_bit}

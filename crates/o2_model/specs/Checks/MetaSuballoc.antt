@@ -1,8 +1,8 @@
 -- META_SUBALLOC, number 16, at the extent block or refcount block: its suballoc_slot and suballoc_bit are those of its group and
--- bit, and suballoc_loc is 0 or the group. A block that is from no extent_alloc is not judged, nor is one without the signature
+-- bit, and suballoc_loc is 0 or the group; a block that is from no extent_alloc is not judged, nor is one without the signature
 -- and number of a refcount block.
 use Rattle.std.specs.Prelude.{ℕ, List, ◌++◌, filter, flat_map}
-use Rattle.o2_model.specs.Words.{fails_at}
+use Rattle.o2_model.specs.Faults.{fails_at}
 use Rattle.o2_model.specs.Volume.{Volume}
 use Rattle.o2_model.specs.Allocators.{are_metadata}
 use Rattle.o2_model.specs.RefcountTrees.{is_refcount_block, refcount_leaves, refcount_roots, leaf_list}

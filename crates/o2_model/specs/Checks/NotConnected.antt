@@ -1,8 +1,9 @@
--- NOT_CONNECTED, number 29, at the inode: the tree has it, or the system directory, or it is an orphan that an orphan directory
--- names.
+-- NOT_CONNECTED, number 29, at the inode: the walk of the tree meets it, or it is one of the volume's own, or it has
+-- `OCFS2_ORPHANED_FL` and an orphan directory names it.
 use Rattle.std.specs.Prelude.{ℕ, Bool, ◌&&◌, ◌||◌, ◌==◌, List}
 use Rattle.std.specs.List.{list_any}
-use Rattle.o2_model.specs.Words.{among, fails_at}
+use Rattle.o2_model.specs.Words.{among}
+use Rattle.o2_model.specs.Faults.{fails_at}
 use Rattle.o2_model.specs.Volume.{Volume}
 use Rattle.o2_model.specs.Directories.{own_inodes}
 use Rattle.o2_model.specs.Groups.{inodes_of}

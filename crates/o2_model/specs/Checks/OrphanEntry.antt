@@ -1,10 +1,11 @@
--- ORPHAN_ENTRY, number 28, at the directory block of the entry: each entry of an orphan directory but the dots names an inode
--- with `OCFS2_ORPHANED_FL` that is not the volume's own, and no inode is named again.
+-- ORPHAN_ENTRY, number 28, at the orphan directory's block: each live entry but the dots names an inode with `OCFS2_ORPHANED_FL`
+-- that is not the volume's own, and over all slots no inode is named again.
 use Rattle.std.specs.Prelude.{ℕ, Bool, ◌&&◌, not, ◌==◌, List, [], ◌++◌, map, flat_map}
 use Rattle.std.specs.Option.{option_map_or}
 use Rattle.o2_model.specs.declared.system_file.SlotFile.TheVariants.{OrphanDir}
 use Rattle.o2_model.specs.declared.system_file.SystemFile.TheVariants.{OfSlot}
-use Rattle.o2_model.specs.Words.{among, fails_at}
+use Rattle.o2_model.specs.Words.{among}
+use Rattle.o2_model.specs.Faults.{fails_at}
 use Rattle.o2_model.specs.Orders.{later_like}
 use Rattle.o2_model.specs.Volume.{Volume}
 use Rattle.o2_model.specs.Directories.{Entry, named_entries, own_inodes}

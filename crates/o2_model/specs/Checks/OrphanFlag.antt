@@ -1,7 +1,7 @@
 -- ORPHAN_FLAG, number 27, at the inode: one that the walk of the tree meets has no `OCFS2_ORPHANED_FL`.
 use Rattle.std.specs.Prelude.{ℕ, Bool, not, List}
 use Rattle.o2_ondisk.specs.Bits.{has_bits, orphaned_inode_flag}
-use Rattle.o2_model.specs.Words.{fails_at}
+use Rattle.o2_model.specs.Faults.{fails_at}
 use Rattle.o2_model.specs.Volume.{Volume, dinode}
 use Rattle.o2_model.specs.Tree.{met_inodes}
 

@@ -1,7 +1,7 @@
--- REF_COUNT, number 32, at the block of the record: r_refcount is how often each cluster of the record is referred to, or the
--- greatest number where that is more. A record whose clusters are not referred to equally often is REF_COVER's alone.
+-- REF_COUNT, number 32, at the refcount block that has the record: r_refcount is how often each cluster of the record is referred
+-- to, at most 2^32 - 1; where they are not referred to equally often, REF_COVER alone is told.
 use Rattle.std.specs.Prelude.{ℕ, ◌-◌, ◌^◌, min, Bool, ◌||◌, not, ◌==◌, List, flat_map, filter}
-use Rattle.o2_model.specs.Words.{fails_at}
+use Rattle.o2_model.specs.Faults.{fails_at}
 use Rattle.o2_model.specs.Volume.{Volume}
 use Rattle.o2_model.specs.Files.{times_in}
 use Rattle.o2_model.specs.RefcountTrees.{PlacedRefcount, refcount_roots, is_refcount_block, refcounts}

@@ -1,9 +1,10 @@
--- REF_COVER, number 31, at the root: the records of the tree have just the clusters under refcounted records of its inodes, and
+-- REF_COVER, number 31, at the root of the tree: its records have just the clusters under refcounted records of its inodes, and
 -- those of one record are all referred to equally often.
 use Rattle.std.specs.Prelude.{ℕ, Bool, ◌&&◌, ◌==◌, nat_lt, List, flat_map, filter}
 use Rattle.std.specs.List.{range_with_len, list_all, list_any}
 use Rattle.o2_ondisk.specs.declared.refcount_rec.RefcountRec.{RefcountRec}
-use Rattle.o2_model.specs.Words.{among, fails_at}
+use Rattle.o2_model.specs.Words.{among}
+use Rattle.o2_model.specs.Faults.{fails_at}
 use Rattle.o2_model.specs.Volume.{Volume}
 use Rattle.o2_model.specs.Files.{shared_references, times_in}
 use Rattle.o2_model.specs.RefcountTrees.{refcount_roots, inodes_of_tree, is_refcount_block, refcounts}

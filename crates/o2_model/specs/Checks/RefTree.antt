@@ -1,8 +1,8 @@
--- REF_TREE, number 30, at the refcount block, or at the inode: an inode with refcounted records has a tree, and the tree's blocks,
--- lists and records are well formed.
+-- REF_TREE, number 30, at the refcount block, or the inode: an inode with refcounted records has a tree; its root and leaves are
+-- refcount blocks of this volume with lists that fit; records rise without overlap, have clusters in range, and are referred to.
 use Rattle.std.specs.Prelude.{ℕ, Bool, ◌&&◌, List, ◌++◌, flat_map, filter}
 use Rattle.std.specs.List.{list_any}
-use Rattle.o2_model.specs.Words.{fails_at, fails_unless}
+use Rattle.o2_model.specs.Faults.{fails_at, fails_unless}
 use Rattle.o2_model.specs.Orders.{is_none_of}
 use Rattle.o2_model.specs.Volume.{Volume, is_in_range, dinode}
 use Rattle.o2_model.specs.Inodes.{records_of}

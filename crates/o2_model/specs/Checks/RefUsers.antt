@@ -1,6 +1,6 @@
--- REF_USERS, number 33, at the root: rf_count is the number of the tree's inodes.
+-- REF_USERS, number 33, at the root of the tree: rf_count is the number of the tree's inodes.
 use Rattle.std.specs.Prelude.{ℕ, ◌%◌, ◌^◌, ◌==◌, List, filter, length}
-use Rattle.o2_model.specs.Words.{fails_at}
+use Rattle.o2_model.specs.Faults.{fails_at}
 use Rattle.o2_model.specs.Volume.{Volume}
 use Rattle.o2_model.specs.RefcountTrees.{refcount_block, refcount_roots, inodes_of_tree, is_refcount_block}
 

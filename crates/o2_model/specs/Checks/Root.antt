@@ -1,6 +1,6 @@
--- ROOT, number 4, at the root: its dinode is valid, and it is a directory.
+-- ROOT, number 4, at the root: it is a valid dinode of a directory.
 use Rattle.std.specs.Prelude.{ℕ, Bool, ◌&&◌, List}
-use Rattle.o2_model.specs.Words.{fails_unless}
+use Rattle.o2_model.specs.Faults.{fails_unless}
 use Rattle.o2_model.specs.Volume.{Volume, is_valid}
 use Rattle.o2_model.specs.Inodes.{is_directory}
 

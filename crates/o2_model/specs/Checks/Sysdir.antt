@@ -1,7 +1,8 @@
--- SYSDIR, number 2, at the system directory: its dinode is valid, and its entries can be read.
+-- SYSDIR, number 2, at the system directory: it is a valid dinode of a directory, for which EXTENT, INODE_SIZE, DIR_BLOCK,
+-- DIRENT_NAME and DIRENT_DUP hold.
 use Rattle.std.specs.Prelude.{ℕ, Bool, ◌&&◌, List, ◌++◌}
 use Rattle.o2_model.specs.Orders.{is_none_of}
-use Rattle.o2_model.specs.Words.{fails_unless}
+use Rattle.o2_model.specs.Faults.{fails_unless}
 use Rattle.o2_model.specs.Volume.{Volume, is_valid}
 use Rattle.o2_model.specs.Inodes.{is_directory}
 use Rattle.o2_model.specs.Checks.Extent.{extent_faults}

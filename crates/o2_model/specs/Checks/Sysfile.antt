@@ -1,5 +1,7 @@
--- SYSFILE, number 3, at the inode that an entry of the system directory names, else at the system directory: the volume's own
--- files are there, are what their names say, and stand on bits of inode allocators.
+-- SYSFILE, number 3, at the inode that the entry names; for what is missing, the system directory: no required file is missing;
+-- each entry but the dots names an inode on a bit, of the kind and with the flags of its name, neither the root nor the system
+-- directory, and no inode is named twice; no name is of a slot that there is not; no file of a slot shares clusters; the root and
+-- the system directory stand on bits.
 use Rattle.std.specs.Prelude.{ℕ, Bool, true, false, ◌&&◌, ◌||◌, not, ◌==◌, nat_le, List, ◌++◌, map, is_some, if◌then◌else◌}
 use Rattle.std.specs.List.{list_any, list_all}
 use Rattle.std.specs.Option.{option_map_or}
@@ -10,7 +12,7 @@ use Rattle.o2_model.specs.declared.system_file.SlotFile.{SlotFile}
 use Rattle.o2_model.specs.declared.system_file.SlotFile.TheVariants.{OrphanDir, ExtentAlloc, InodeAlloc, Journal, LocalAlloc, TruncateLog}
 use Rattle.o2_model.specs.declared.system_file.SystemFile.{SystemFile}
 use Rattle.o2_model.specs.declared.system_file.SystemFile.TheVariants.{GlobalInodeAlloc, GlobalBitmap}
-use Rattle.o2_model.specs.Words.{fails_unless, fails_at}
+use Rattle.o2_model.specs.Faults.{fails_unless, fails_at}
 use Rattle.o2_model.specs.Orders.{later_like}
 use Rattle.o2_model.specs.Volume.{Volume, dinode}
 use Rattle.o2_model.specs.Inodes.{is_directory, is_file}

@@ -1,14 +1,15 @@
--- TRUNCATE_LOG, number 39, at the dinode: the log of the slot fits, and the clusters of its records are free and stand there once.
+-- TRUNCATE_LOG, number 39, at the dinode of the truncate log: the counts fit the dinode; each record is void, or its clusters are
+-- in range, and no earlier claim or record has one of them.
 use Rattle.std.specs.Prelude.{ℕ, Bool, true, ◌&&◌, List, [], ◌∷◌, flat_map}
 use Rattle.std.specs.Option.{option_map_or}
 use Rattle.o2_ondisk.specs.declared.truncate_rec.TruncateRec.{TruncateRec}
 use Rattle.o2_model.specs.declared.claim.Claim.{Claim}
 use Rattle.o2_model.specs.declared.system_file.SlotFile.TheVariants.{TruncateLog}
 use Rattle.o2_model.specs.declared.system_file.SystemFile.TheVariants.{OfSlot}
-use Rattle.o2_model.specs.Words.{fails_unless}
+use Rattle.o2_model.specs.Faults.{fails_unless}
 use Rattle.o2_model.specs.Volume.{Volume}
 use Rattle.o2_model.specs.SystemFiles.{system_inode, slots}
-use Rattle.o2_model.specs.Slots.{is_sound_truncate_header, truncate_records, is_sound_truncation}
+use Rattle.o2_model.specs.TruncateLogs.{is_sound_truncate_header, truncate_records, is_sound_truncation}
 use Rattle.o2_model.specs.Claims.{claims_with_truncations, with_truncation, claimed_clusters}
 
 -- each record holds behind these claims and the records before it

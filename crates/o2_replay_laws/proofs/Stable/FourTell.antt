@@ -13,7 +13,9 @@ use Rattle.o2_model.specs.Features.{unsupported_in, unsupported_feature}
 use Rattle.o2_model.specs.Volume.{Volume, over, block_size, volume_of, opened}
 use Rattle.o2_model.specs.Logs.{LoggedBlock}
 use Rattle.o2_model.specs.Dirty.{dirty_slots, slot_journal, committed_writes, all_committed_writes}
-use Rattle.o2_model.specs.Replay.{puts_sector, dirty_journals, replayed, first_sector, IsTornReplay, IsReplayable, IsReplayStable}
+use Rattle.o2_model.specs.TornReplays.{puts_sector, dirty_journals, IsTornReplay}
+use Rattle.o2_model.specs.Replay.{replayed, first_sector}
+use Rattle.o2_model.specs.Recoverable.{IsReplayable, IsReplayStable}
 use Rattle.o2_replay_laws.specs.FourImages.{with_sectors, sector_of_super, sector_of_sysdir, HasOneLog, AreFourReplayable}
 use Rattle.o2_laws.proofs.Geometries.{found_bits}
 use Rattle.o2_laws.proofs.SameSuperblock.{found_one, superblock_same}

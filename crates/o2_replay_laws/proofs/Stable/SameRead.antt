@@ -8,7 +8,8 @@ use Rattle.std.proofs.lemmas.Bool.{cases_Bool, eqb-true}
 use Rattle.std.proofs.lemmas.List.{append-nil}
 use Rattle.o2_model.specs.declared.system_file.SlotFile.TheVariants.{Journal}
 use Rattle.o2_model.specs.declared.system_file.SystemFile.TheVariants.{OfSlot}
-use Rattle.o2_model.specs.Words.{among, fails_unless}
+use Rattle.o2_model.specs.Words.{among}
+use Rattle.o2_model.specs.Faults.{fails_unless}
 use Rattle.o2_model.specs.Orders.{first_of, from_to}
 use Rattle.o2_laws.specs.Frames.{SameOn}
 use Rattle.o2_model.specs.Volume.{Volume, over}
@@ -20,7 +21,7 @@ use Rattle.o2_model.specs.Dirty.{is_journal, journal_if, slot_journal, is_dirty_
 use Rattle.o2_model.specs.Anchors.{directory_anchors, journal_anchors, anchors_of, anchors_as_logged, is_anchor, names_dirty_journal, is_clean_slot, keeps_journal, clusters_in, slots_in, with_old_numbers, with_logged, is_super_change, is_directory_change, is_journal_change, is_allowed_write, is_sound_write, bad_writes, log_fault}
 use Rattle.o2_model.specs.Checks.Super.{is_sound_super, super_faults}
 use Rattle.o2_model.specs.Checks.Sysdir.{is_sound_directory, sysdir_faults}
-use Rattle.o2_model.specs.Replay.{dirty_journals}
+use Rattle.o2_model.specs.TornReplays.{dirty_journals}
 use Rattle.o2_laws.proofs.Agreeing.{filter_agree_on, all_agree, option_agree}
 use Rattle.o2_replay_laws.proofs.Stable.SameDirectory.{sound_directory_same, directory_entries_same, directory_anchors_same, system_inode_same}
 use Rattle.o2_replay_laws.proofs.Stable.SameJournal.{is_dirty_same, journal_inode_same, journal_anchors_same, part_fault_same, log_in_same}

@@ -12,9 +12,10 @@ use Rattle.o2_ondisk.specs.Number.{number_at}
 use Rattle.o2_ondisk.specs.Fields.{paste_at, bytes_at}
 use Rattle.o2_ondisk.proofs.NumberLaws.{number_at-drop}
 use Rattle.o2_ondisk.proofs.PasteLaws.{number_at-paste_at_apart, length-paste_at}
+use Rattle.o2_ondisk.specs.Signatures.{superblock_signature}
 use Rattle.o2_disk.specs.Image.{Image, sector, block_at}
 use Rattle.o2_disk.proofs.Images.{block_at-same}
-use Rattle.o2_model.specs.Superblock.{super_signature, has_super, superblock_bits, block_sizes}
+use Rattle.o2_model.specs.Superblock.{has_super, superblock_bits, block_sizes}
 use Rattle.o2_model.specs.Geometry.{geometry_in_block}
 use Rattle.o2_model.specs.Volume.{Volume}
 use Rattle.o2_model.specs.Logs.{LoggedBlock}
@@ -98,9 +99,9 @@ super_change_keeps v w long enough h =
 super_found_alike : (J F : Image) (bits : ℕ) → length F ≡ length J → SuperKept (block_at (2 ^ bits) J 2) (block_at (2 ^ bits) F 2) → has_super F bits ≡ has_super J bits
 unfolding has_super
 super_found_alike J F bits size kept =
-    ap (λ n. nat_le (3 * 2 ^ bits) (512 * n) && number_at 0x0 8 (block_at (2 ^ bits) F 2) == super_signature && (geometry_in_block (block_at (2 ^ bits) F 2)).block_bits == bits) size
-    ∙ (ap (λ n. nat_le (3 * 2 ^ bits) (512 * length J) && n == super_signature && (geometry_in_block (block_at (2 ^ bits) F 2)).block_bits == bits) kept.signature
-    ∙ ap (λ n. nat_le (3 * 2 ^ bits) (512 * length J) && number_at 0x0 8 (block_at (2 ^ bits) J 2) == super_signature && n == bits) kept.block_bits)
+    ap (λ n. nat_le (3 * 2 ^ bits) (512 * n) && number_at 0x0 8 (block_at (2 ^ bits) F 2) == superblock_signature && (geometry_in_block (block_at (2 ^ bits) F 2)).block_bits == bits) size
+    ∙ (ap (λ n. nat_le (3 * 2 ^ bits) (512 * length J) && n == superblock_signature && (geometry_in_block (block_at (2 ^ bits) F 2)).block_bits == bits) kept.signature
+    ∙ ap (λ n. nat_le (3 * 2 ^ bits) (512 * length J) && number_at 0x0 8 (block_at (2 ^ bits) J 2) == superblock_signature && n == bits) kept.block_bits)
 
 -- block 2 of smaller blocks lies before block 2
 small_block : (k : ℕ) (J F : Image) (bits small : ℕ) → 2 ^ bits ≡ 512 * k → small < bits → ((s : ℕ) → s < 2 * k → sector F s ≡ sector J s) → block_at (2 ^ small) F 2 ≡ block_at (2 ^ small) J 2

@@ -11,7 +11,8 @@ use Rattle.o2_ondisk.proofs.NumberLaws.{number_at-same}
 use Rattle.o2_disk.specs.Image.{Image, sector, sectors_in, piece, byte, block_at}
 use Rattle.o2_disk.proofs.Images.{sector_past}
 use Rattle.o2_model.specs.Logs.{LoggedBlock}
-use Rattle.o2_model.specs.Replay.{first_sector, puts_sector}
+use Rattle.o2_model.specs.Replay.{first_sector}
+use Rattle.o2_model.specs.TornReplays.{puts_sector}
 use Rattle.o2_laws.proofs.Found.{passing}
 use Rattle.o2_replay_laws.proofs.Stable.Written.{writes_to, writes_there}
 

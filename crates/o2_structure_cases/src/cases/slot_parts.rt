@@ -4,7 +4,9 @@ ghost use Rattle.o2_model.specs.declared.claim.Owner.TheVariants.{LocalAlloc, Tr
 ghost use Rattle.o2_model.specs.Checks.LocalAlloc.{local_alloc_faults};
 ghost use Rattle.o2_model.specs.Checks.TruncateLog.{truncate_log_faults};
 ghost use Rattle.o2_model.specs.Claims.{claims_of, owner_in};
-ghost use Rattle.o2_model.specs.Slots.{is_sound_truncate_header, is_sound_truncation, is_sound_window, is_sound_window_size, total_of, truncated_clusters, used_of, window_clusters};
+ghost use Rattle.o2_model.specs.TruncateLogs.{is_sound_truncate_header, is_sound_truncation, truncated_clusters};
+ghost use Rattle.o2_model.specs.Windows.{is_sound_window, is_sound_window_size, window_clusters};
+ghost use Rattle.o2_model.specs.Allocators.{total_of, used_of};
 ghost use Rattle.o2_ondisk.specs.Fields.{put_at};
 ghost use Rattle.o2_cases_volumes.specs.SmallBytes.{zero_bytes};
 ghost use Rattle.o2_cases_volumes.specs.SmallVolumes.{small};
