@@ -17,8 +17,9 @@ use Rattle.o2_model.specs.SystemFiles.{system_inode}
 use Rattle.o2_model.specs.Groups.{is_inode, inodes_of}
 use Rattle.o2_model.specs.Files.{times_in}
 use Rattle.o2_model.specs.Journals.{journals}
-use Rattle.o2_model.specs.Slots.{truncate_records}
-use Rattle.o2_model.specs.Indexes.{indexed_directories, index_clusters, has_own_index_clusters, is_sound_index}
+use Rattle.o2_model.specs.TruncateLogs.{truncate_records}
+use Rattle.o2_model.specs.Indexes.{indexed_directories, index_clusters}
+use Rattle.o2_model.specs.SoundIndexes.{has_own_index_clusters, is_sound_index}
 use Rattle.o2_model.specs.Claims.{claims_by, claimed_clusters, is_claimed, structure_claims, clusters_of, inode_claims, with_index, claims_with_indexes, with_window_of, with_window, claims_with_windows, with_truncation, with_truncate_log, claims_with_truncations, claims_of}
 use Rattle.o2_model.specs.Failing.{failing}
 use Rattle.o2_model.specs.Owned.{is_first_of_journal}
