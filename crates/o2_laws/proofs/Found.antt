@@ -7,6 +7,7 @@ use Rattle.std.proofs.lemmas.List.Folds.{list_any-append, list_any_at, list_all_
 use Rattle.std.proofs.lemmas.List.FromFn.{length-range_with_len, get_or-range_with_len}
 use Rattle.o2_model.specs.Words.{push}
 use Rattle.o2_model.specs.Orders.{is_none_of}
+use Rattle.std.specs.Option.{option_map}
 
 pub found : {A : Type 0} (p : A → Bool) (xs : List A) (x : A) → Contains xs x → p x ≡ true → list_any p xs ≡ true
 found p xs x is h = list_any_at p xs is.0 x is.1 (ap p is.2 ∙ h)
@@ -124,3 +125,8 @@ all_get P (y ∷ ys) (suc k) x all is = all_get P ys k x all.1 is
 pub either : {A : Type 0} (a b : Bool) (x : A) (o : Option A) → o ≡ cond b (Some x) None → cond a (Some x) o ≡ cond (a || b) (Some x) None
 either true b x o h = refl
 either false b x o h = h
+
+-- what is found of something, where there is that
+pub mapped_some : {A B : Type 0} (f : A → B) (o : Option A) (y : B) → option_map f o ≡ Some y → (x : A) × (o ≡ Some x) × (f x ≡ y)
+mapped_some f None y h = cc
+mapped_some f (Some x) y h = (x, refl, cc)

@@ -1,5 +1,5 @@
--- The numbers of the superblock that is found.
-use Rattle.std.proofs.Common.{◌≡◌, ⊎_elim, ℕ, List, [], ◌∷◌, Bool, true, Option, Some, None, refl, sym, ◌∙◌, ap, subst, arith}
+-- The numbers of the superblock that is found, and the volume that is opened under it.
+use Rattle.std.proofs.Common.{◌≡◌, ⊎_elim, ℕ, List, [], ◌∷◌, Bool, true, Some, sym, ◌∙◌, ap, subst, arith}
 use Rattle.std.proofs.lemmas.Bool.Decides.{nat_tests}
 use Rattle.std.proofs.lemmas.Bool.{cases_Bool}
 use Rattle.std.specs.Prelude.{find}
@@ -7,8 +7,9 @@ use Rattle.std.specs.Option.{option_map}
 use Rattle.o2_disk.specs.Image.{Image}
 use Rattle.o2_model.specs.Superblock.{superblock_bits, has_super, block_sizes}
 use Rattle.o2_model.specs.Geometry.{geometry_at, superblock_geometry}
-use Rattle.o2_model.specs.Volume.{opened, volume_of}
+use Rattle.o2_model.specs.Volume.{opened, volume_of, Volume}
 use Rattle.o2_model.specs.declared.geo.Geo.{Geo}
+use Rattle.o2_laws.proofs.Found.{mapped_some}
 
 -- what is found passes
 found_passes : (p : ℕ → Bool) (xs : List ℕ) (x : ℕ) → find p xs ≡ Some x → p x ≡ true
@@ -26,11 +27,7 @@ found_bits I bits found = tells_bits I bits (found_passes (has_super I) block_si
 
 -- there is a superblock where there are numbers
 pub found_under : (I : Image) (geo : Geo) → superblock_geometry I ≡ Some geo → (bits : ℕ) × (superblock_bits I ≡ Some bits) × (geometry_at I bits ≡ geo)
-found_under I geo found = under (superblock_bits I) found refl
-  where
-    under : (o : Option ℕ) → option_map (geometry_at I) o ≡ Some geo → superblock_bits I ≡ o → (bits : ℕ) × (superblock_bits I ≡ Some bits) × (geometry_at I bits ≡ geo)
-    under None none is = absurd (let never : ⊥ = cc in never)
-    under (Some bits) some is = (bits, is, cc)
+found_under I geo found = mapped_some (geometry_at I) (superblock_bits I) geo found
 
 pub geometry_bits : (I : Image) (geo : Geo) → superblock_geometry I ≡ Some geo → superblock_bits I ≡ Some geo.block_bits
 geometry_bits I geo found =
@@ -44,3 +41,10 @@ pub geometry_numbers : (I : Image) (geo : Geo) → superblock_geometry I ≡ Som
 geometry_numbers I geo found =
     let at = found_under I geo found in
     ap (geometry_at I) (ap (λ (x : Geo). x.block_bits) (sym at.2) ∙ found_bits I at.0 at.1) ∙ at.2
+
+-- ---- what is opened
+pub opened_at : (I : Image) (v : Volume) → opened I ≡ Some v → (bits : ℕ) × (superblock_bits I ≡ Some bits) × (volume_of I bits ≡ v)
+opened_at I v is = mapped_some (volume_of I) (superblock_bits I) v is
+
+pub opened_of : (I : Image) (bits : ℕ) → superblock_bits I ≡ Some bits → opened I ≡ Some (volume_of I bits)
+opened_of I bits found = ap (option_map (volume_of I)) found

@@ -13,15 +13,15 @@ use Rattle.o2_laws.proofs.Held.HeldImages.{super_holds}
 use Rattle.o2_laws.proofs.Held.OwnInodes.{sysdir_holds}
 
 -- ---- where nothing is dirty
-no_journal_at_fault : (v : Volume) → dirty_slots v ≡ [] → journal_fault v ≡ None
+pub no_journal_at_fault : (v : Volume) → dirty_slots v ≡ [] → journal_fault v ≡ None
 unfolding journal_fault
 no_journal_at_fault v none = rw none refl
 
-no_log_at_fault : (v : Volume) → dirty_slots v ≡ [] → log_fault v ≡ None
+pub no_log_at_fault : (v : Volume) → dirty_slots v ≡ [] → log_fault v ≡ None
 unfolding log_fault
 no_log_at_fault v none = rw none refl
 
-anchors_free : (v : Volume) → dirty_slots v ≡ [] → AreAnchorsApart v
+pub anchors_free : (v : Volume) → dirty_slots v ≡ [] → AreAnchorsApart v
 anchors_free v none s dirty = absurd (false≢true (rw none at dirty))
 
 -- ---- images

@@ -1,6 +1,6 @@
 -- Where nothing fails, the volume's own files are inodes, and no directory is a journal.
 use Rattle.std.proofs.Common.{◌≡◌, inl, inr, ℕ, Bool, true, false, ◌&&◌, ◌||◌, not, ◌==◌, List, [], ◌∷◌, ◌++◌, refl, sym, ◌∙◌, ap, subst, Option, Some, None, arith}
-use Rattle.std.specs.Prelude.{filter, codes, bytes_eq, is_some, option_map}
+use Rattle.std.specs.Prelude.{filter, codes, bytes_eq, is_some}
 use Rattle.std.specs.List.{AllByRecursion, Contains}
 use Rattle.std.specs.Option.{option_map_or}
 use Rattle.std.proofs.lemmas.Bool.{cases_Bool, and_from, and_parts, or_right, eq-eqb, eqb-true, false≢true, cond-true, cond-false, not_from_false}
@@ -26,7 +26,7 @@ use Rattle.o2_model.specs.Failing.{faults, failing}
 use Rattle.o2_laws.proofs.NothingFails.{no_check_fails}
 use Rattle.o2_laws.proofs.SlotNames.{slot_only, slot_told_by_digits}
 use Rattle.o2_laws.proofs.Failing.{none_fails, holds_unless}
-use Rattle.o2_laws.proofs.Found.{append_nothing, found, any_map, any_filter, passing, any_flat, find_passing, each_of}
+use Rattle.o2_laws.proofs.Found.{append_nothing, found, any_map, any_filter, passing, any_flat, find_passing, each_of, mapped_some}
 use Rattle.o2_laws.proofs.Members.{among_one}
 
 -- ---- checks
@@ -125,14 +125,10 @@ entry_own v e is h =
     ∙ (any_filter (λ x. e.inode == x.inode) (λ x. not (is_dot x)) (directory_entries v v.geo.sysdir)
     ∙ found (λ x. not (is_dot x) && e.inode == x.inode) (directory_entries v v.geo.sysdir) e is (and_from _ _ h (eq-eqb e.inode e.inode refl))))
 
-option_inode : (o : Option Entry) (b : ℕ) → option_map (λ (e : Entry). e.inode) o ≡ Some b → (e : Entry) × (o ≡ Some e) × (e.inode ≡ b)
-option_inode None b h = cc
-option_inode (Some e) b h = (e, refl, cc)
-
 named_file : (v : Volume) (file : SystemFile) (b : ℕ) → failing v ≡ [] → system_inode v file ≡ Some b → NamedFile v file b
 unfolding system_inode
 named_file v file b none h =
-    let entry = option_inode (first_named v v.geo.sysdir (system_name file)) b h in
+    let entry = mapped_some (λ (e : Entry). e.inode) (first_named v v.geo.sysdir (system_name file)) b h in
     let at = find_passing (is_named (system_name file)) (directory_entries v v.geo.sysdir) entry.0 entry.1 in
     let no_dots : not (is_dot entry.0) ≡ true = not_from_false _ (no_dot file entry.0 at.1) in
     let all = filtered (λ e. is_sound_system_entry v e ≡ true) (λ e. not (is_dot e)) (directory_entries v v.geo.sysdir) (file_parts v (files_hold v none)).1 in

@@ -1,6 +1,6 @@
 -- An image that agrees with a consistent one on the held blocks has the same contents, and is consistent where the superblocks of its
 -- journals are sound.
-use Rattle.std.proofs.Common.{◌≡◌, ℕ, ◌^◌, ◌≤◌, List, [], length, drop, refl, sym, ◌∙◌, ap, subst, arith, Option, Some, None}
+use Rattle.std.proofs.Common.{◌≡◌, ℕ, ◌^◌, ◌≤◌, List, [], length, drop, sym, ◌∙◌, ap, subst, arith, Some}
 use Rattle.std.specs.Option.{option_map}
 use Rattle.std.specs.FinMap as finite
 use Rattle.o2_ondisk.specs.Number.{number_at}
@@ -16,7 +16,7 @@ use Rattle.o2_model.specs.Failing.{failing}
 use Rattle.o2_model.specs.Consistent.{IsConsistent}
 use Rattle.o2_laws.specs.Agrees.{HasSoundJournalSupers}
 use Rattle.o2_laws.proofs.Held.HeldBlocks.{AgreesOnHeld}
-use Rattle.o2_laws.proofs.Geometries.{found_bits}
+use Rattle.o2_laws.proofs.Geometries.{found_bits, opened_at}
 use Rattle.o2_laws.proofs.SameSuperblock.{superblock_same}
 use Rattle.o2_laws.proofs.NothingDirty.{none_replayed, consistent_clean, consistent_replayed}
 use Rattle.o2_laws.proofs.Held.HeldTree.{held_tell_tree}
@@ -72,12 +72,8 @@ record IsFound (I : Image) (v : Volume) : Type 0 where
   found : superblock_bits I ≡ Some bits
   volume : volume_of I bits ≡ v
 
-found_of : (I : Image) (v : Volume) (o : Option ℕ) → superblock_bits I ≡ o → option_map (volume_of I) o ≡ Some v → IsFound I v
-found_of I v None found is = absurd (let never : ⊥ = cc in never)
-found_of I v (Some bits) found is = record { bits = bits; found = found; volume = cc }
-
 is_found : (I : Image) (h : IsConsistent I) → IsFound I h.volume
-is_found I h = found_of I h.volume (superblock_bits I) refl h.is_opened
+is_found I h = let at = opened_at I h.volume h.is_opened in record { bits = at.0; found = at.1; volume = at.2 }
 
 -- What is asked of an image by the volume of a consistent one.
 abbrev pub Agrees : (I X : Image) → IsConsistent I → Type 0

@@ -2,7 +2,7 @@
 use Rattle.std.proofs.Common.{◌≡◌, ◌≢◌, inl, inr, ⊎_elim, ℕ, ◌*◌, ◌-◌, ◌^◌, ◌<◌, ◌≤◌, Bool, true, false, [], ◌∷◌, ◌++◌, length, refl, sym, ◌∙◌, ap, subst, arith, Option, Some, None}
 use Rattle.std.specs.Prelude.{flat_map, drop}
 use Rattle.std.specs.List.{list_any, Contains}
-use Rattle.std.specs.Option.{option_map, option_map_or, option_and_then}
+use Rattle.std.specs.Option.{option_map_or, option_and_then}
 use Rattle.std.proofs.lemmas.Bool.{cases_eq}
 use Rattle.o2_ondisk.specs.Number.{number_at}
 use Rattle.o2_ondisk.specs.Super.{super_of}
@@ -10,14 +10,14 @@ use Rattle.o2_disk.specs.Image.{Image, sector, piece, block_at}
 use Rattle.o2_model.specs.Words.{among}
 use Rattle.o2_model.specs.Superblock.{superblock, cluster_count, superblock_bits, has_super, block_sizes}
 use Rattle.o2_model.specs.Features.{unsupported_in, unsupported_feature}
-use Rattle.o2_model.specs.Volume.{Volume, over, block_size, volume_of, opened}
+use Rattle.o2_model.specs.Volume.{Volume, over, block_size, volume_of}
 use Rattle.o2_model.specs.Logs.{LoggedBlock}
 use Rattle.o2_model.specs.Dirty.{dirty_slots, slot_journal, committed_writes, all_committed_writes}
 use Rattle.o2_model.specs.TornReplays.{puts_sector, dirty_journals, IsTornReplay}
 use Rattle.o2_model.specs.Replay.{replayed, first_sector}
 use Rattle.o2_model.specs.Recoverable.{IsReplayable, IsReplayStable}
 use Rattle.o2_replay_laws.specs.FourImages.{with_sectors, sector_of_super, sector_of_sysdir, HasOneLog, AreFourReplayable}
-use Rattle.o2_laws.proofs.Geometries.{found_bits}
+use Rattle.o2_laws.proofs.Geometries.{found_bits, opened_at, opened_of}
 use Rattle.o2_laws.proofs.SameSuperblock.{found_one, superblock_same}
 use Rattle.o2_model.proofs.SuperSector.{size-is, some_sectors}
 use Rattle.o2_laws.proofs.Failing.{volume_of-over}
@@ -32,17 +32,7 @@ use Rattle.o2_replay_laws.proofs.Stable.ReplayedSectors.{first_sector_is, sector
 use Rattle.o2_replay_laws.proofs.Stable.Choice.{Pick, chosen, pick_first, with_none, length-with_sectors, picked_first, picked_second, picked_other}
 
 -- ---- what is opened
-opened_at : (I : Image) (v : Volume) → opened I ≡ Some v → (bits : ℕ) × (superblock_bits I ≡ Some bits) × (v ≡ volume_of I bits)
-opened_at I v is = go (superblock_bits I) is refl
-  where
-    go : (o : Option ℕ) → option_map (volume_of I) o ≡ Some v → superblock_bits I ≡ o → (bits : ℕ) × (superblock_bits I ≡ Some bits) × (v ≡ volume_of I bits)
-    go None none found = absurd (let never : ⊥ = cc in never)
-    go (Some bits) some found = (bits, found, (let e : volume_of I bits ≡ v = cc in sym e))
-
-opened_of : (I : Image) (bits : ℕ) → superblock_bits I ≡ Some bits → opened I ≡ Some (volume_of I bits)
-opened_of I bits found = ap (option_map (volume_of I)) found
-
-least_bits : (I : Image) (bits : ℕ) → superblock_bits I ≡ Some bits → 9 ≤ bits
+pub least_bits : (I : Image) (bits : ℕ) → superblock_bits I ≡ Some bits → 9 ≤ bits
 unfolding superblock_bits
 least_bits I bits found = found_one (λ n. 9 ≤ n) (has_super I) block_sizes bits (omega arith, (omega arith, (omega arith, (omega arith, tt)))) found
 
@@ -209,7 +199,7 @@ by_bits I v s j one four V torn =
     let at = opened_at I v one.is_opened in
     let moved : HasOneLog I (volume_of I at.0) s j → AreFourReplayable I (volume_of I at.0) → IsTornReplay I (volume_of I at.0) V → IsReplayable (volume_of I at.0) V
     = λ o f t. torn_replayable I at.0 s j at.1 o f V t in
-    subst (λ u. HasOneLog I u s j → AreFourReplayable I u → IsTornReplay I u V → IsReplayable u V) (sym at.2) moved one four torn
+    subst (λ u. HasOneLog I u s j → AreFourReplayable I u → IsTornReplay I u V → IsReplayable u V) at.2 moved one four torn
 
 -- Four images tell whether a replay may be stopped and started again.
 pub four_tell : (I : Image) (v : Volume) (s j : ℕ) → HasOneLog I v s j → AreFourReplayable I v → IsReplayStable I

@@ -48,7 +48,7 @@ block_by_sectors k X Y b each = ext_get_or 0 (block_at (512 * k) X b) (block_at 
     byte_of_block k X b r within ∙ (ap (λ x. get_or x (r % 512) 0) (each (r / 512) (omega (arith, within))) ∙ sym (byte_of_block k Y b r within)))
 
 -- ---- bytes of a write
-byte_of_piece : (bytes : List ℕ) (r : ℕ) → get_or (piece bytes (r / 512)) (r % 512) 0 ≡ get_or bytes r 0
+pub byte_of_piece : (bytes : List ℕ) (r : ℕ) → get_or (piece bytes (r / 512)) (r % 512) 0 ≡ get_or bytes r 0
 byte_of_piece bytes r =
     let again : 512 * (r / 512) + r % 512 ≡ r = omega arith in
     get_or-take 512 (drop (512 * (r / 512)) bytes) (r % 512) 0 (omega arith) ∙ (get_or-drop (512 * (r / 512)) bytes (r % 512) 0 ∙ ap (λ n. get_or bytes n 0) again)
