@@ -20,8 +20,9 @@ pub enum Check {
     Sysfile,
     /// Number 4, at the root: it is a valid dinode of a directory.
     Root,
-    /// Number 5, at the allocator: cl_bpc and cl_cpg are those of clusters in the global bitmap, else those of blocks, with at
-    /// least two bits in a group; cl_count is at least 1 and fits the dinode, and cl_next_free_rec fits it.
+    /// Number 5, at the allocator: in the global bitmap cl_bpc is 1 and cl_cpg the clusters of a group, else cl_bpc is the blocks
+    /// of a cluster and a group has at least two bits; cl_count is at least 1 and fits the dinode, and cl_next_free_rec is at
+    /// most cl_count.
     ChainHeader,
     /// Number 6, at the journal: EXTENT holds; it has clusters, which follow one another from its cluster 0 on and have no flags;
     /// its superblock has the magic, the type, the volume's block size, bounds that fit, and no features but REVOKE and 64BIT.
@@ -59,9 +60,9 @@ pub enum Check {
     /// Number 18, at the dinode or the refcount root that has the list: i_last_eb_blk, or rf_last_eb_blk, is the last leaf block
     /// of the list, or 0 where it has none.
     LastEb,
-    /// Number 19, at the inode: i_size fits the inline data, and that the dinode; a directory has whole blocks, at least one, all
-    /// mapped and written; a link has a text, in the dinode or in cluster 0; a file ends within the clusters that have a number,
-    /// unless it is one of the volume's own.
+    /// Number 19, at the inode: of inline data i_size is at most id_count, and that fits the dinode; a directory has whole
+    /// blocks, at least one, all mapped and written; a link has a text, in the dinode or in cluster 0; a file ends within the
+    /// clusters that have a number, unless it is one of the volume's own.
     InodeSize,
     /// Number 20, at the directory's block: entries fill it, and in the directory's first block the first two are live, and named
     /// `.` and `..`.

@@ -1,5 +1,6 @@
--- CHAIN_HEADER, number 5, at the allocator: cl_bpc and cl_cpg are those of clusters in the global bitmap, else those of blocks,
--- with at least two bits in a group; cl_count is at least 1 and fits the dinode, and cl_next_free_rec fits it.
+-- CHAIN_HEADER, number 5, at the allocator: in the global bitmap cl_bpc is 1 and cl_cpg the clusters of a group, else cl_bpc is
+-- the blocks of a cluster and a group has at least two bits; cl_count is at least 1 and fits the dinode, and cl_next_free_rec is
+-- at most cl_count.
 use Rattle.std.specs.Prelude.{ℕ, List}
 use Rattle.o2_model.specs.Faults.{fails_at}
 use Rattle.o2_model.specs.Volume.{Volume}

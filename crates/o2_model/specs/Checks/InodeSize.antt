@@ -1,6 +1,6 @@
--- INODE_SIZE, number 19, at the inode: i_size fits the inline data, and that the dinode; a directory has whole blocks, at least
--- one, all mapped and written; a link has a text, in the dinode or in cluster 0; a file ends within the clusters that have a
--- number, unless it is one of the volume's own.
+-- INODE_SIZE, number 19, at the inode: of inline data i_size is at most id_count, and that fits the dinode; a directory has whole
+-- blocks, at least one, all mapped and written; a link has a text, in the dinode or in cluster 0; a file ends within the clusters
+-- that have a number, unless it is one of the volume's own.
 use Rattle.std.specs.Prelude.{ℕ, ◌*◌, ◌/◌, ◌%◌, ◌^◌, ◌-◌, Bool, true, ◌&&◌, ◌||◌, ◌==◌, nat_lt, nat_le, List, length, Option, Some, if◌then◌else◌}
 use Rattle.std.specs.List.{list_any}
 use Rattle.o2_ondisk.specs.Dinodes.{last_part_place}
