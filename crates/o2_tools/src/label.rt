@@ -10,6 +10,7 @@ ghost use Rattle.o2_tools.specs.Answer.{is_for_later, volume_refusal, label_refu
 ghost use Rattle.o2_tools.specs.Status.{IsRefusal, IsDone, IsOfTunefs};
 ghost use Rattle.o2_view.specs.SuperSector.{IsSuperSector};
 
+use crate::attach::attach;
 use crate::cause::Cause;
 use crate::superblock::is_not_served;
 use o2_disk::{Disk, Failed, How, put_sector};
@@ -70,7 +71,7 @@ fn open_volume<D: Disk>(alloc: Global, device: &mut D, name: &str) -> Result<Sup
     ensures reads { ReadsOnly (D.state device.old) (D.state device.new) }
     ensures faults { OnOk result ((D.state device.new).faults ≡ (D.state device.old).faults) }
 {
-    device.attach(alloc, name, How::ReadWrite)?;
+    attach(alloc, device, name, How::ReadWrite)?;
     let Some(sector) = find_super_sector(device)? else {
         return Err(Cause::NotOcfs2);
     };

@@ -1,6 +1,7 @@
 //! The program: from the words of a command line to the changed device.
 #![tactic(auto)]
 
+mod attach;
 mod cause;
 mod command;
 mod label;

@@ -14,6 +14,7 @@ ghost use Rattle.o2_debug.specs.Commands.{AnswersAt, AnswersSomeAt, IsAbsent, Is
 ghost use Rattle.o2_tools.specs.Replies.{ComesFor, BeginsReport, RefusesVolume, IsOfOpening, cause_of_query};
 ghost use Rattle.o2_tools.specs.Status.{IsRefusal, IsOfQuery};
 
+use crate::attach::attach;
 use crate::cause::Cause;
 use crate::superblock::unsupported;
 use o2_debug::{DebugFault, Query, command};
@@ -73,7 +74,7 @@ fn open_for_reading<D: Disk>(alloc: Global, device: &mut D, name: &str) -> Resul
     ensures not_writable { IsWritable (D.state device.new).attached → ⊥ }
     ensures faults { OnOk result ((D.state device.new).faults ≡ (D.state device.old).faults) }
 {
-    device.attach(alloc, name, How::ReadOnly)?;
+    attach(alloc, device, name, How::ReadOnly)?;
     let Some(sector) = find_super_sector(device)? else {
         return Err(Cause::NotOcfs2);
     };
