@@ -1,8 +1,7 @@
 -- Where the checks of a directory fail, all together.
-use Rattle.std.proofs.Common.{◌≡◌, ℕ, Bool, true, false, ◌&&◌, List, [], ◌∷◌, ◌++◌, map, refl, ◌∙◌, ap}
+use Rattle.std.proofs.Common.{◌≡◌, inl, inr, ℕ, Bool, true, false, ◌&&◌, List, [], ◌∷◌, ◌++◌, map, refl, ◌∙◌, ap}
 use Rattle.std.proofs.lemmas.Bool.{and_left, and_right}
 use Rattle.o2_model.specs.declared.check.Check.{Check}
-use Rattle.o2_model.specs.declared.check.Check.TheVariants as check
 use Rattle.o2_model.specs.Words.{IsLeast}
 use Rattle.o2_model.specs.Faults.{those_not}
 use Rattle.o2_model.specs.Orders.{later_like, is_none_of}
@@ -41,10 +40,11 @@ each v d =
 
 -- where one of the first three fails, some check does
 pub some_fail : (v : Volume) (d : ℕ) (c : Check) (b : ℕ) → FailsFirst v d c b → is_none_of (directory_faults v d) ≡ false
-some_fail v d check.Extent b h = each v d ∙ and_left _ _ (and_left _ _ (and_left _ _ (and_left _ _ (some_in b (extent_faults v d) h))))
-some_fail v d check.InodeSize b h = each v d ∙ and_left _ _ (and_left _ _ (and_left _ _ (and_right _ _ (some_in b (inode_size_faults v d) h.1))))
-some_fail v d check.DirBlock b h = each v d ∙ and_left _ _ (and_left _ _ (and_right _ _ (some_in b (dir_block_faults v d) h.2)))
-some_fail v d _ b h = absurd h
+unfolding FailsFirst
+some_fail v d c b (inl extent) = each v d ∙ and_left _ _ (and_left _ _ (and_left _ _ (and_left _ _ (some_in b (extent_faults v d) extent.1))))
+some_fail v d c b (inr (sound, inl size)) = each v d ∙ and_left _ _ (and_left _ _ (and_left _ _ (and_right _ _ (some_in b (inode_size_faults v d) size.1))))
+some_fail v d c b (inr (sound, inr (fits, inl block))) = each v d ∙ and_left _ _ (and_left _ _ (and_right _ _ (some_in b (dir_block_faults v d) block.1)))
+some_fail v d c b (inr (sound, inr (fits, inr (filled, none)))) = absurd none
 
 last_two : (a b c n d : Bool) → a ≡ true → b ≡ true → c ≡ true → (a && b && c && n && d) ≡ (n && d)
 last_two a b c n d is_a is_b is_c = rw (is_a, is_b, is_c) refl

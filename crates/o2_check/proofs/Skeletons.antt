@@ -1,7 +1,6 @@
 -- The three checks, where their tests hold and where one does not.
-use Rattle.std.proofs.Common.{◌≡◌, ℕ, ◌≤◌, Bool, true, false, ◌&&◌, [], refl, ◌∙◌, subst, arith}
-use Rattle.std.proofs.lemmas.Bool.{and_left, or_left, eq-eqb}
-use Rattle.std.proofs.lemmas.List.Elements.{All-push}
+use Rattle.std.proofs.Common.{◌≡◌, ℕ, Bool, true, false, ◌&&◌, [], refl, sym, ◌∙◌, subst, inl, inr}
+use Rattle.std.proofs.lemmas.Bool.{and_left}
 use Rattle.o2_model.specs.Words.{IsLeast}
 use Rattle.o2_model.specs.Faults.{fails_unless}
 use Rattle.o2_model.specs.Orders.{is_none_of}
@@ -12,6 +11,7 @@ use Rattle.o2_model.specs.Checks.Sysdir.{directory_faults, is_sound_directory}
 use Rattle.o2_model.specs.Checks.Root.{is_sound_root, root_faults}
 use Rattle.o2_model.specs.declared.check.Check.{Check}
 use Rattle.o2_model.specs.declared.check.Check.TheVariants as check
+use Rattle.o2_dir.proofs.Whole.{fails_there}
 use Rattle.o2_check.specs.Skeleton.{HasSkeleton, FailsFirst}
 use Rattle.o2_check.proofs.Tests.{true_and}
 
@@ -28,9 +28,6 @@ entries_decide v d good = true_and _ _ good
 holds : (b : ℕ) (test : Bool) → test ≡ true → fails_unless b test ≡ []
 holds b test is = rw is refl
 
-fails : (b : ℕ) (test : Bool) → test ≡ false → IsLeast b (fails_unless b test)
-fails b test is = rw is (record { is_among = or_left _ _ (eq-eqb b b refl); each = All-push (λ (m : ℕ). b ≤ m) [] b (λ k e lt. absurd (omega arith)) (omega arith) })
-
 root_is : (v : Volume) → is_sound_root v ≡ (is_valid v v.geo.root && is_directory v v.geo.root)
 unfolding is_sound_root
 root_is v = refl
@@ -45,9 +42,7 @@ all_hold v super sysdir root = record {
 
 pub root_fails : (v : Volume) (c : Check) (b : ℕ) → check.Root ≡ c → v.geo.root ≡ b → is_sound_super v ≡ true → is_sound_directory v v.geo.sysdir ≡ true
     → (is_valid v v.geo.root && is_directory v v.geo.root) ≡ false → FailsFirst v c b
+unfolding FailsFirst
 root_fails v c b c_is b_is super sysdir root =
-    subst (λ (k : Check). FailsFirst v k b) c_is (
-      holds 2 (is_sound_super v) super,
-      holds v.geo.sysdir (is_sound_directory v v.geo.sysdir) sysdir,
-      subst (λ (n : ℕ). IsLeast n (root_faults v)) b_is (fails v.geo.root (is_sound_root v) (root_is v ∙ root)),
-    )
+    let least = subst (λ (n : ℕ). IsLeast n (root_faults v)) b_is (fails_there v.geo.root (is_sound_root v) (root_is v ∙ root)) in
+    inr (holds 2 (is_sound_super v) super, inr (holds v.geo.sysdir (is_sound_directory v v.geo.sysdir) sysdir, inl (sym c_is, least)))

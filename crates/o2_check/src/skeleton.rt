@@ -16,6 +16,7 @@ use o2_model::{Check, Geo};
 use o2_view::{ReadFault, View};
 use std::alloc::Global;
 
+#[tactic(auto, unfolding(crate::specs::Skeleton::FailsFirst))]
 /// Judges what a path starts from, before one is followed. The view has all whole blocks of the device, and `geo` tells their
 /// size right; nothing else of it is taken for granted. Bad with the first of SUPER (at block 2), SYSDIR (at the system directory's
 /// dinode) and ROOT (at the root's) that fails.

@@ -1,5 +1,5 @@
 -- What the parts of an answer tell of the whole.
-use Rattle.std.proofs.Common.{◌≡◌, inr, ℕ, Bool, true, false, List, [], refl, subst, ap, sym, ◌∙◌}
+use Rattle.std.proofs.Common.{◌≡◌, inl, inr, ℕ, Bool, true, false, List, [], refl, subst, ap, sym, ◌∙◌}
 use Rattle.o2_disk.specs.Output.{SinkState}
 use Rattle.o2_ondisk.specs.Kinds.{kind_of_mode}
 use Rattle.o2_ondisk.specs.declared.dinode.Dinode.{Dinode}
@@ -24,16 +24,18 @@ no_least b least = let none : false ≡ true = least.is_among in cc none
 
 -- of a sound directory only its blocks fail
 blocks_alone : (v : Volume) (d : ℕ) (check : Check) (at : ℕ) → IsSound v d → FailsFirst v d check at → (check ≡ checks.DirBlock) × IsLeast at (dir_block_faults v d)
-blocks_alone v d checks.Extent at sound fails = absurd (no_least at (subst (IsLeast at) sound.extent fails))
-blocks_alone v d checks.InodeSize at sound fails = absurd (no_least at (subst (IsLeast at) sound.size fails.1))
-blocks_alone v d checks.DirBlock at sound fails = (refl, fails.2)
-blocks_alone v d _ at sound fails = absurd fails
+unfolding FailsFirst
+blocks_alone v d check at sound (inl extent) = absurd (no_least at (subst (IsLeast at) sound.extent extent.1))
+blocks_alone v d check at sound (inr (none, inl size)) = absurd (no_least at (subst (IsLeast at) sound.size size.1))
+blocks_alone v d check at sound (inr (none, inr (fits, inl block))) = block
+blocks_alone v d check at sound (inr (none, inr (fits, inr (filled, nothing)))) = absurd nothing
 
 -- and nothing of a sound file
 pub data_holds : (v : Volume) (b : ℕ) (check : Check) (at : ℕ) → IsSound v b → DataFailsFirst v b check at → ⊥
-data_holds v b checks.Extent at sound fails = no_least at (subst (IsLeast at) sound.extent fails)
-data_holds v b checks.InodeSize at sound fails = no_least at (subst (IsLeast at) sound.size fails.1)
-data_holds v b _ at sound fails = fails
+unfolding DataFailsFirst
+data_holds v b check at sound (inl extent) = no_least at (subst (IsLeast at) sound.extent extent.1)
+data_holds v b check at sound (inr (none, inl size)) = no_least at (subst (IsLeast at) sound.size size.1)
+data_holds v b check at sound (inr (none, inr (fits, nothing))) = nothing
 
 pub extents_hold : (v : Volume) (b at : ℕ) → IsSound v b → IsLeast at (extent_faults v b) → ⊥
 extents_hold v b at sound least = no_least at (subst (IsLeast at) sound.extent least)

@@ -1,6 +1,7 @@
 -- What is wrong with an inode, by what its readers tell.
-use Rattle.std.proofs.Common.{◌≡◌, ◌≢◌, ℕ, Bool, true, false, List, [], length, refl, sym, ◌∙◌, ap, subst, ◌-◌, ◌||◌}
-use Rattle.std.specs.Prelude.{Option, Some, None, IsSome, ◌&&◌, nat_le, if◌then◌else◌, flat_map}
+use Rattle.std.proofs.Common.{◌≡◌, ◌≢◌, inl, inr, ℕ, Bool, true, false, List, [], length, refl, sym, ◌∙◌, ap, subst, ◌-◌, ◌||◌}
+use Rattle.std.specs.Prelude.{Option, Some, None, IsSome, is_some, ◌&&◌, nat_le, if◌then◌else◌, flat_map}
+use Rattle.std.specs.Option.{option_map_or}
 use Rattle.o2_ondisk.specs.Bits.{has_bits, inline_data_dyn_feature}
 use Rattle.o2_ondisk.specs.Number.{number_at}
 use Rattle.o2_ondisk.specs.Kinds.{kind_of_mode}
@@ -9,13 +10,16 @@ use Rattle.o2_ondisk.specs.declared.kind.Kind.{Kind}
 use Rattle.o2_ondisk.specs.declared.kind.Kind.TheVariants as k
 use Rattle.o2_model.specs.declared.check.Check.{Check}
 use Rattle.o2_model.specs.declared.check.Check.TheVariants as checks
+use Rattle.o2_model.specs.Words.{IsLeast}
+use Rattle.o2_model.specs.Faults.{fails_unless}
 use Rattle.o2_model.specs.Volume.{Volume, dinode, block_size, is_valid}
 use Rattle.o2_model.specs.Inodes.{kind, is_directory, is_directory_kind, is_file, is_file_kind, is_link, is_link_kind, has_data, holds_list, extent_lists_of}
+use Rattle.o2_model.specs.Checks.InodeKind.{has_kind, inode_kind_faults}
 use Rattle.o2_model.specs.Checks.Extent.{extent_faults}
-use Rattle.o2_model.specs.Checks.InodeSize.{has_sound_size, is_size_of_kind}
+use Rattle.o2_model.specs.Checks.InodeSize.{has_sound_size, inode_size_faults, is_size_of_kind}
 use Rattle.o2_dir.specs.Fails.{FailsNone, FailsFirst}
 use Rattle.o2_dir.specs.FileData.{HasBytes, IsSoundData, DataFailsFirst}
-use Rattle.o2_dir.proofs.Whole.{size_sound, size_bad}
+use Rattle.o2_dir.proofs.Whole.{size_sound, size_bad, fails_there}
 use Rattle.o2_debug.specs.Objects.{IsSound, FailsAsObject}
 
 -- ---- kinds
@@ -35,6 +39,25 @@ some_of_data : (v : Volume) (b : ℕ) → HasBytes v b → IsSome (kind v b)
 unfolding is_file is_link
 some_of_data v b has = data_is_some (kind v b) has.kind
 
+-- an inode of some kind does not fail for it
+of_some_kind : (said : Option Kind) (b : ℕ) → IsSome said → fails_unless b (option_map_or (λ which. true) said false) ≡ []
+of_some_kind (Some which) b some = refl
+of_some_kind None b some = absurd (let none : ⊥ = cc some in none)
+
+has_kind_of : (v : Volume) (b : ℕ) → IsSome (kind v b) → inode_kind_faults v b ≡ []
+has_kind_of v b some = of_some_kind (kind v b) b some
+
+-- an inode of none does
+of_no_kind : (said : Option Kind) → is_some said ≡ false → option_map_or (λ which. true) said false ≡ false
+of_no_kind None none = refl
+of_no_kind (Some which) none = absurd (let some : ⊥ = cc none in some)
+
+pub kind_fails : (v : Volume) (b at : ℕ) (check : Check) (d : Dinode) → d ≡ dinode v b → check ≡ checks.InodeKind → at ≡ b → is_some (kind_of_mode d.mode) ≡ false → FailsAsObject v b check at
+unfolding FailsAsObject
+kind_fails v b at check d is named placed none =
+    let told : is_some (kind v b) ≡ false = subst (λ (e : Dinode). is_some (kind_of_mode e.mode) ≡ false) is none in
+    inl (named, subst (λ (n : ℕ). IsLeast n (inode_kind_faults v b)) (sym placed) (fails_there b (has_kind v b) (of_no_kind (kind v b) told)))
+
 -- what the tests of a dinode say of the inode
 pub directory_of : (v : Volume) (b : ℕ) (d : Dinode) → d ≡ dinode v b → is_directory_kind (kind_of_mode d.mode) ≡ true → is_directory v b ≡ true
 unfolding is_directory
@@ -49,24 +72,31 @@ pub sound_data : (v : Volume) (b : ℕ) → HasBytes v b → IsSoundData v b →
 sound_data v b has sound = record { kind = some_of_data v b has; extent = sound.extent; size = sound.size }
 
 pub data_fails : (v : Volume) (b : ℕ) (check : Check) (at : ℕ) → HasBytes v b → DataFailsFirst v b check at → FailsAsObject v b check at
-data_fails v b checks.Extent at has fails = (some_of_data v b has, fails)
-data_fails v b checks.InodeSize at has fails = (some_of_data v b has, fails.0, fails.1)
-data_fails v b _ at has fails = absurd fails
+unfolding DataFailsFirst FailsAsObject
+data_fails v b check at has fails = inr (has_kind_of v b (some_of_data v b has), fails)
 
 -- ---- a directory
 pub sound_directory : (v : Volume) (d : ℕ) → is_directory v d ≡ true → FailsNone v d → IsSound v d
 sound_directory v d is none = record { kind = some_of_directory v d is; extent = none.extent; size = none.size }
 
+-- where the last of the three fails first, the others hold
+first_two : (v : Volume) (d at : ℕ) → FailsFirst v d checks.DirBlock at → (extent_faults v d ≡ []) × (inode_size_faults v d ≡ [])
+unfolding FailsFirst
+first_two v d at (inl extent) = absurd (let none : ⊥ = cc extent.0 in none)
+first_two v d at (inr (sound, inl size)) = absurd (let none : ⊥ = cc size.0 in none)
+first_two v d at (inr (sound, inr (fits, rest))) = (sound, fits)
+
 pub sound_but_blocks : (v : Volume) (d : ℕ) (check : Check) (at : ℕ) → is_directory v d ≡ true → check ≡ checks.DirBlock → FailsFirst v d check at → IsSound v d
 sound_but_blocks v d check at is blocks fails =
-    let of_blocks = subst (λ (c : Check). FailsFirst v d c at) blocks fails in
-    record { kind = some_of_directory v d is; extent = of_blocks.0; size = of_blocks.1 }
+    let two = first_two v d at (subst (λ (c : Check). FailsFirst v d c at) blocks fails) in
+    record { kind = some_of_directory v d is; extent = two.0; size = two.1 }
 
 pub directory_fails : (v : Volume) (d : ℕ) (check : Check) (at : ℕ) → is_directory v d ≡ true → check ≢ checks.DirBlock → FailsFirst v d check at → FailsAsObject v d check at
-directory_fails v d checks.Extent at is other fails = (some_of_directory v d is, fails)
-directory_fails v d checks.InodeSize at is other fails = (some_of_directory v d is, fails.0, fails.1)
-directory_fails v d checks.DirBlock at is other fails = absurd (other refl)
-directory_fails v d _ at is other fails = absurd fails
+unfolding FailsFirst FailsAsObject
+directory_fails v d check at is other (inl extent) = inr (has_kind_of v d (some_of_directory v d is), inl extent)
+directory_fails v d check at is other (inr (sound, inl size)) = inr (has_kind_of v d (some_of_directory v d is), inr (sound, inl size))
+directory_fails v d check at is other (inr (sound, inr (fits, inl block))) = absurd (other block.0)
+directory_fails v d check at is other (inr (sound, inr (fits, inr (filled, none)))) = absurd none
 
 -- ---- any other kind
 no_data : (kind : Option Kind) → IsSome kind → is_directory_kind kind ≡ false → (is_file_kind kind || is_link_kind kind) ≡ false → has_data kind ≡ false
@@ -123,7 +153,8 @@ module _ (v : Volume) (b : ℕ) (d : Dinode) (bytes : List ℕ) (is : d ≡ dino
   sound_rest test = record { kind = some_kind; extent = no_extents; size = size_sound v b (sym tested ∙ test) }
 
   pub rest_fails : rest_test d bytes ≡ false → FailsAsObject v b checks.InodeSize b
-  rest_fails test = (some_kind, no_extents, size_bad v b (sym tested ∙ test))
+  unfolding FailsAsObject
+  rest_fails test = inr (has_kind_of v b some_kind, inr (no_extents, inl (refl, size_bad v b (sym tested ∙ test))))
 
 -- the same check at the same block
 pub fails_as : (v : Volume) (b : ℕ) (c d : Check) (m n : ℕ) → c ≡ d → m ≡ n → FailsAsObject v b c m → FailsAsObject v b d n

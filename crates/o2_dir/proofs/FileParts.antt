@@ -101,5 +101,6 @@ as_read v b bytes block leaves records same are read = record { holds = same ∙
 
 -- ---- what is wrong
 pub fails_size : (v : Volume) (b at : ℕ) (check : Check) → check ≡ InodeSize → at ≡ b → extent_faults v b ≡ [] → has_sound_size v b ≡ false → DataFailsFirst v b check at
+unfolding DataFailsFirst
 fails_size v b at check named placed sound bad =
-    subst (λ (k : Check). DataFailsFirst v b k at) (sym named) (sound, subst (λ (n : ℕ). IsLeast n (inode_size_faults v b)) (sym placed) (size_bad v b bad))
+    inr (sound, inl (named, subst (λ (n : ℕ). IsLeast n (inode_size_faults v b)) (sym placed) (size_bad v b bad)))

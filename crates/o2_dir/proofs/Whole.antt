@@ -9,7 +9,7 @@ use Rattle.o2_ondisk.specs.declared.kind.Kind.{Kind}
 use Rattle.o2_ondisk.specs.declared.kind.Kind.TheVariants.{File, Directory, Character, Block, Fifo, Socket, Link}
 use Rattle.o2_model.specs.Volume.{Volume, block_size, per_cluster, dinode}
 use Rattle.o2_model.specs.Words.{IsLeast}
-use Rattle.o2_model.specs.Faults.{fails_at}
+use Rattle.o2_model.specs.Faults.{fails_at, fails_unless}
 use Rattle.o2_model.specs.Checks.Extent.{extent_faults}
 use Rattle.o2_model.specs.Checks.DirBlock.{is_sound_dir_block, dir_block_faults}
 use Rattle.o2_model.specs.Extents.{leaf_clusters}
@@ -69,8 +69,12 @@ size_is v d size leaves h =
 pub size_sound : (v : Volume) (d : ℕ) → has_sound_size v d ≡ true → inode_size_faults v d ≡ []
 size_sound v d h = rw h refl
 
+-- a check of one block fails there alone
+pub fails_there : (b : ℕ) (test : Bool) → test ≡ false → IsLeast b (fails_unless b test)
+fails_there b test is = rw is (record { is_among = or_left _ _ (eq-eqb b b refl); each = All-push (λ (m : ℕ). b ≤ m) [] b (λ k e lt. absurd (omega arith)) (omega arith) })
+
 pub size_bad : (v : Volume) (d : ℕ) → has_sound_size v d ≡ false → IsLeast d (inode_size_faults v d)
-size_bad v d h = rw h (record { is_among = or_left _ _ (eq-eqb d d refl); each = All-push (λ (m : ℕ). d ≤ m) [] d (λ k e lt. absurd (omega arith)) (omega arith) })
+size_bad v d h = fails_there d (has_sound_size v d) h
 
 -- ---- what a reader is given
 pub size_told : (v : Volume) (d size : ℕ) (leaves : List Leaf) → IsMapped v d size leaves → (bytes pc : ℕ) (places : List Place) (told : Bool) → bytes ≡ block_size v → pc ≡ per_cluster v
@@ -96,9 +100,11 @@ pub faults_kept : (v : Volume) (d : ℕ) (bs : List DirBlock) (reading : Reading
 faults_kept v d bs reading are kept = kept.faults ∙ ap (fails_at (λ b. b.block) is_sound_dir_block) (sym are)
 
 pub fails_size : (v : Volume) (d : ℕ) (check : Check) (b : ℕ) → check ≡ InodeSize → b ≡ d → extent_faults v d ≡ [] → has_sound_size v d ≡ false → FailsFirst v d check b
+unfolding FailsFirst
 fails_size v d check b check_is b_is sound bad =
-    subst (λ (k : Check). FailsFirst v d k b) (sym check_is) (sound, subst (λ (n : ℕ). IsLeast n (inode_size_faults v d)) (sym b_is) (size_bad v d bad))
+    inr (sound, inl (check_is, subst (λ (n : ℕ). IsLeast n (inode_size_faults v d)) (sym b_is) (size_bad v d bad)))
 
 pub fails_blocks : (v : Volume) (d : ℕ) (check : Check) (b : ℕ) (faults : List ℕ) → check ≡ DirBlockFails → extent_faults v d ≡ [] → has_sound_size v d ≡ true → faults ≡ dir_block_faults v d → IsLeast b faults → FailsFirst v d check b
+unfolding FailsFirst
 fails_blocks v d check b faults check_is sound good are least =
-    subst (λ (k : Check). FailsFirst v d k b) (sym check_is) (sound, size_sound v d good, subst (IsLeast b) are least)
+    inr (sound, inr (size_sound v d good, inl (check_is, subst (IsLeast b) are least)))

@@ -1,13 +1,13 @@
 -- What is wrong with a directory, and what a reader of its blocks is given.
-use Rattle.std.specs.Prelude.{◌≡◌, ℕ, true, false, List, [], map}
+use Rattle.std.specs.Prelude.{◌≡◌, ℕ, true, false, List, [], ◌∷◌, map}
 use Rattle.o2_model.specs.declared.check.Check.{Check}
 use Rattle.o2_model.specs.declared.check.Check.TheVariants as check
-use Rattle.o2_model.specs.Words.{IsLeast}
 use Rattle.o2_model.specs.Volume.{Volume, dinode}
 use Rattle.o2_model.specs.Inodes.{is_directory, is_inline, leaf_records}
 use Rattle.o2_model.specs.Checks.Extent.{extent_faults}
 use Rattle.o2_model.specs.Checks.InodeSize.{inode_size_faults}
 use Rattle.o2_model.specs.Checks.DirBlock.{dir_block_faults}
+use Rattle.o2_model.specs.FirstFault.{FailsFirst as FailsFirstOf}
 use Rattle.o2_extent.specs.Readings.{leaf_of}
 use Rattle.o2_extent.specs.declared.leaf.Leaf.{Leaf}
 
@@ -18,11 +18,8 @@ pub record FailsNone (v : Volume) (d : ℕ) : Type 0 where
   pub blocks : dir_block_faults v d ≡ []
 
 -- This is the first of these checks that fails for the directory, and this is the least block at which it does.
-abbrev pub FailsFirst : Volume → ℕ → Check → ℕ → Type 0
-FailsFirst v d check.Extent b = IsLeast b (extent_faults v d)
-FailsFirst v d check.InodeSize b = (extent_faults v d ≡ []) × IsLeast b (inode_size_faults v d)
-FailsFirst v d check.DirBlock b = (extent_faults v d ≡ []) × (inode_size_faults v d ≡ []) × IsLeast b (dir_block_faults v d)
-FailsFirst v d _ b = ⊥
+unfoldable pub FailsFirst : Volume → ℕ → Check → ℕ → Type 0
+FailsFirst v d = FailsFirstOf ((check.Extent, extent_faults v d) ∷ (check.InodeSize, inode_size_faults v d) ∷ (check.DirBlock, dir_block_faults v d) ∷ [])
 
 -- an inode whose block has these bytes, and whose extents are well formed, with these leaf records
 pub record IsRead (v : Volume) (d : ℕ) (bytes : List ℕ) (leaves : List Leaf) : Type 0 where

@@ -23,6 +23,7 @@ use o2_ondisk::read_dinode;
 use o2_view::View;
 use std::alloc::Global;
 
+#[tactic(auto, unfolding(crate::specs::Fails::FailsFirst))]
 /// The live entries of a directory, in order. Bad where EXTENT, INODE_SIZE or DIR_BLOCK fails for it.
 pub fn entries<D: Disk, const N: usize>(
     alloc: Global,

@@ -102,6 +102,7 @@ fn read_data<D: Disk, const N: usize>(
     read_mapped(alloc, view, geo, leaves, dinode.size, at, len)
 }
 
+#[tactic(auto, unfolding(crate::specs::FileData::DataFailsFirst))]
 /// The bytes of the file or link at `inode` from byte `at` on: `len` of them, or fewer where it ends before. Bad where EXTENT
 /// or INODE_SIZE fails for it.
 pub fn read_bytes<D: Disk, const N: usize>(

@@ -4,10 +4,10 @@ use Rattle.std.specs.Prelude.{IsSome}
 use Rattle.o2_ondisk.specs.Dinodes.{dinode_of}
 use Rattle.o2_ondisk.specs.Kinds.{kind_of_mode}
 use Rattle.o2_model.specs.Volume.{dinode}
-use Rattle.o2_model.specs.declared.check.Check.TheVariants.{InodeSize}
+use Rattle.o2_model.specs.declared.check.Check.TheVariants.{InodeKind, InodeSize}
 use Rattle.o2_extent.specs.Seen.{volume_seen}
 use Rattle.o2_extent.proofs.Views.{still_in}
-use Rattle.o2_debug.proofs.Judged.{directory_of, data_of, sound_rest, rest_fails, fails_as}
+use Rattle.o2_debug.proofs.Judged.{directory_of, data_of, kind_fails, sound_rest, rest_fails, fails_as}
 use Rattle.o2_debug.proofs.object.judge.Goals as goal
 
 pub judge_directory-requires : goal.judge_directory-requires
@@ -42,6 +42,15 @@ judge_data-requires g c = (
     ),
   ),
 )
+
+pub returns-then-not-has_kind-clause-bad : goal.returns-then-not-has_kind-clause-bad
+returns-then-not-has_kind-clause-bad g c check b is I told =
+    let v = volume_seen c.args.geo.now I in
+    let d = c.read_dinode-d.result in
+    let named : check ≡ InodeKind = cc in
+    let placed : b ≡ c.args.inode = cc in
+    let tells : d ≡ dinode v c.args.inode = c.read_dinode-d.ensures ∙ ap dinode_of (c.as_slice.ensures ∙ c.in_ok-block.ensures.block I told) in
+    kind_fails v c.args.inode b check d tells named placed (sym c.has_kind.ensures ∙ c.if-not-has_kind.true)
 
 pub returns-then-not-has_sound_rest-clause-bad : goal.returns-then-not-has_sound_rest-clause-bad
 returns-then-not-has_sound_rest-clause-bad g c check b is I told =
