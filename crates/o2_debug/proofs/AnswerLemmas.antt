@@ -12,9 +12,10 @@ use Rattle.o2_model.specs.Checks.Extent.{extent_faults}
 use Rattle.o2_model.specs.Checks.DirBlock.{dir_block_faults}
 use Rattle.o2_dir.specs.Fails.{FailsNone, FailsFirst}
 use Rattle.o2_dir.specs.FileData.{HasBytes, DataFailsFirst}
+use Rattle.o2_debug.specs.declared.query.Query.{Query}
 use Rattle.o2_debug.specs.declared.query.Query.TheVariants.{Ls, Stat, Cat}
 use Rattle.o2_debug.specs.Objects.{IsSound}
-use Rattle.o2_debug.specs.Answers.{IsAnswerable, Answers, IsOfOtherKind, FailsFor}
+use Rattle.o2_debug.specs.Answers.{is_for, IsAnswerable, Answers, IsOfOtherKind, FailsFor}
 use Rattle.o2_debug.specs.Taken.{Takes}
 use Rattle.o2_debug.specs.Texts.{ls_text, stat_text, cat_text}
 
@@ -41,11 +42,8 @@ pub extents_hold : (v : Volume) (b at : ℕ) → IsSound v b → IsLeast at (ext
 extents_hold v b at sound least = no_least at (subst (IsLeast at) sound.extent least)
 
 module _ (v : Volume) (b : ℕ) (d : Dinode) (is : d ≡ dinode v b) where
-  pub directory_kind : (test : Bool) → is_directory_kind (kind_of_mode d.mode) ≡ test → is_directory_kind (kind v b) ≡ test
-  directory_kind test told = ap (λ (e : Dinode). is_directory_kind (kind_of_mode e.mode)) (sym is) ∙ told
-
-  pub file_kind : (test : Bool) → is_file_kind (kind_of_mode d.mode) ≡ test → is_file_kind (kind v b) ≡ test
-  file_kind test told = ap (λ (e : Dinode). is_file_kind (kind_of_mode e.mode)) (sym is) ∙ told
+  pub asked_kind : (query : Query) (test : Bool) → is_for query (kind_of_mode d.mode) ≡ test → is_for query (kind v b) ≡ test
+  asked_kind query test told = ap (λ (e : Dinode). is_for query (kind_of_mode e.mode)) (sym is) ∙ told
 
 pub is_directory_of : (v : Volume) (b : ℕ) → is_directory_kind (kind v b) ≡ true → is_directory v b ≡ true
 unfolding is_directory

@@ -1,16 +1,18 @@
 // The answer to a query, for the inode at the end of its path.
-ghost use Rattle.std.specs.Prelude.{◌≡◌, ◌<◌, ℕ, List, true, Some, OnOk, IsErrOf};
+ghost use Rattle.std.specs.Prelude.{◌≡◌, ◌<◌, ℕ, true, Some, OnOk, IsErrOf};
 ghost use Rattle.std.specs.Result.{IfErr};
 ghost use Rattle.o2_disk.specs.Image.{Image};
 ghost use Rattle.o2_disk.specs.Device.{Rose};
 ghost use Rattle.o2_disk.specs.Output.{FailsLast};
 ghost use Rattle.o2_view.specs.Views.{view_state, view_blocks};
 ghost use Rattle.o2_model.specs.declared.check.Check.{Check};
-ghost use Rattle.o2_model.specs.Volume.{is_valid};
+ghost use Rattle.o2_model.specs.Volume.{is_valid, dinode};
+ghost use Rattle.o2_model.specs.Inodes.{kind};
+ghost use Rattle.o2_ondisk.specs.Kinds.{kind_of_mode};
 ghost use Rattle.o2_extent.specs.Seen.{LiesIn, volume_seen};
 ghost use Rattle.o2_extent.specs.Reads.{OnlyReads};
-ghost use Rattle.o2_debug.specs.declared.query.Query.TheVariants.{Ls, Stat, Cat};
-ghost use Rattle.o2_debug.specs.Answers.{IsOfOtherKind, FailsFor, Answers, AnswersSome, BeginsAnswer};
+ghost use Rattle.o2_debug.specs.Answers.{is_for as is_for_kind, IsOfOtherKind, FailsFor, Answers, AnswersSome, BeginsAnswer};
+ghost use Rattle.o2_debug.specs.Objects.{IsSound};
 
 use crate::cat::put_file;
 use crate::object::{is_of_directory, is_of_file, judge};
@@ -18,115 +20,56 @@ use crate::put::{put_ls, put_stat};
 use crate::{DebugFault, Query};
 use o2_disk::{Disk, Sink};
 use o2_model::Geo;
+use o2_ondisk::Dinode;
 use o2_view::View;
 use std::alloc::Global;
 
-/// Answers `ls` for the inode.
-fn answer_ls<D: Disk, K: Sink, const N: usize>(
-    alloc: Global,
-    view: &mut View<'_, D, N>,
-    geo: &Geo,
-    inode: u64,
-    out: &mut K,
-) -> Result<(), DebugFault>
-    requires geo { LiesIn geo.now view.old }
-    requires inode { inode < view_blocks view.old }
-    requires sysdir { geo.now.sysdir < view_blocks view.old }
-    requires valid { (I : Image) → (view_state view.old).content ≡ Some I → is_valid (volume_seen geo.now I) inode ≡ true }
-    ensures all { (path : List ℕ) → OnOk result ((I : Image) → (view_state view.old).content ≡ Some I → Answers (Ls path) (volume_seen geo.now I) inode (K.state out.old) (K.state out.new)) }
-    ensures some { (path : List ℕ) (I : Image) → (view_state view.old).content ≡ Some I → BeginsAnswer (Ls path) (volume_seen geo.now I) inode (K.state out.old) (K.state out.new) }
-    ensures cut { (path : List ℕ) → IsErrOf result DebugFault.OutputFault → (I : Image) → (view_state view.old).content ≡ Some I
-        → AnswersSome (Ls path) (volume_seen geo.now I) inode (K.state out.old) (K.state out.new) }
-    ensures bad { (path : List ℕ) → IfErr result (λ fault. (check : Check) (b : ℕ) → fault ≡ DebugFault.Bad check b → (I : Image) → (view_state view.old).content ≡ Some I
-        → FailsFor (Ls path) (volume_seen geo.now I) inode check b) }
-    ensures untouched { IfErr result (λ fault. (check : Check) (b : ℕ) → fault ≡ DebugFault.Bad check b → (I : Image) → (view_state view.old).content ≡ Some I → out.new ≡ out.old) }
-    ensures kind { (path : List ℕ) → IsErrOf result DebugFault.WrongKind → (I : Image) → (view_state view.old).content ≡ Some I → IsOfOtherKind (Ls path) (volume_seen geo.now I) inode }
-    ensures unasked { IsErrOf result DebugFault.WrongKind → out.new ≡ out.old }
-    ensures absent { IsErrOf result DebugFault.Absent → ⊥ }
-    ensures reads { OnlyReads view.old view.new }
-    ensures fault { IsErrOf result DebugFault.DeviceFault → Rose (view_state view.old).faults (view_state view.new).faults }
-    ensures output { IsErrOf result DebugFault.OutputFault → FailsLast (K.state out.old) (K.state out.new) }
-    ensures quiet { (IsErrOf result DebugFault.OutputFault → ⊥) → (K.state out.new).faults ≡ (K.state out.old).faults }
+/// Whether a query is for inodes with such a dinode.
+fn is_for(query: &Query, d: &Dinode) -> bool
+    ensures { result ≡ is_for_kind query.now (kind_of_mode d.now.mode) }
 {
-    let d = match judge(alloc, view, geo, inode) {
-        Ok(d) => d,
-        Err(fault) => return Err(DebugFault::from(fault)),
-    };
-    if !is_of_directory(&d) {
-        return Err(DebugFault::WrongKind);
+    match query {
+        Query::Ls { .. } => is_of_directory(d),
+        Query::Stat { .. } => true,
+        Query::Cat { .. } => is_of_file(d),
     }
-    put_ls(alloc, view, geo, inode, out)
 }
 
-/// Answers `stat` for the inode.
-fn answer_stat<D: Disk, K: Sink, const N: usize>(
+/// Puts the text of a sound inode that the query is for, whose dinode is `d`. Bad where entries are asked for and DIR_BLOCK fails.
+fn put_answer<D: Disk, K: Sink, const N: usize>(
     alloc: Global,
     view: &mut View<'_, D, N>,
     geo: &Geo,
+    query: &Query,
     inode: u64,
+    d: &Dinode,
     out: &mut K,
 ) -> Result<(), DebugFault>
     requires geo { LiesIn geo.now view.old }
     requires inode { inode < view_blocks view.old }
     requires sysdir { geo.now.sysdir < view_blocks view.old }
     requires valid { (I : Image) → (view_state view.old).content ≡ Some I → is_valid (volume_seen geo.now I) inode ≡ true }
-    ensures all { (path : List ℕ) → OnOk result ((I : Image) → (view_state view.old).content ≡ Some I → Answers (Stat path) (volume_seen geo.now I) inode (K.state out.old) (K.state out.new)) }
-    ensures some { (path : List ℕ) (I : Image) → (view_state view.old).content ≡ Some I → BeginsAnswer (Stat path) (volume_seen geo.now I) inode (K.state out.old) (K.state out.new) }
-    ensures cut { (path : List ℕ) → IsErrOf result DebugFault.OutputFault → (I : Image) → (view_state view.old).content ≡ Some I
-        → AnswersSome (Stat path) (volume_seen geo.now I) inode (K.state out.old) (K.state out.new) }
-    ensures bad { (path : List ℕ) → IfErr result (λ fault. (check : Check) (b : ℕ) → fault ≡ DebugFault.Bad check b → (I : Image) → (view_state view.old).content ≡ Some I
-        → FailsFor (Stat path) (volume_seen geo.now I) inode check b) }
+    requires dinode { (I : Image) → (view_state view.old).content ≡ Some I → d.now ≡ dinode (volume_seen geo.now I) inode }
+    requires sound { (I : Image) → (view_state view.old).content ≡ Some I → IsSound (volume_seen geo.now I) inode }
+    requires asked { (I : Image) → (view_state view.old).content ≡ Some I → is_for_kind query.now (kind (volume_seen geo.now I) inode) ≡ true }
+    ensures all { OnOk result ((I : Image) → (view_state view.old).content ≡ Some I → Answers query.now (volume_seen geo.now I) inode (K.state out.old) (K.state out.new)) }
+    ensures some { (I : Image) → (view_state view.old).content ≡ Some I → BeginsAnswer query.now (volume_seen geo.now I) inode (K.state out.old) (K.state out.new) }
+    ensures cut { IsErrOf result DebugFault.OutputFault → (I : Image) → (view_state view.old).content ≡ Some I → AnswersSome query.now (volume_seen geo.now I) inode (K.state out.old) (K.state out.new) }
+    ensures bad { IfErr result (λ fault. (check : Check) (b : ℕ) → fault ≡ DebugFault.Bad check b → (I : Image) → (view_state view.old).content ≡ Some I
+        → FailsFor query.now (volume_seen geo.now I) inode check b) }
     ensures untouched { IfErr result (λ fault. (check : Check) (b : ℕ) → fault ≡ DebugFault.Bad check b → (I : Image) → (view_state view.old).content ≡ Some I → out.new ≡ out.old) }
     ensures kind { IsErrOf result DebugFault.WrongKind → ⊥ }
-    ensures unasked { IsErrOf result DebugFault.WrongKind → out.new ≡ out.old }
     ensures absent { IsErrOf result DebugFault.Absent → ⊥ }
     ensures reads { OnlyReads view.old view.new }
     ensures fault { IsErrOf result DebugFault.DeviceFault → Rose (view_state view.old).faults (view_state view.new).faults }
     ensures output { IsErrOf result DebugFault.OutputFault → FailsLast (K.state out.old) (K.state out.new) }
     ensures quiet { (IsErrOf result DebugFault.OutputFault → ⊥) → (K.state out.new).faults ≡ (K.state out.old).faults }
 {
-    let d = match judge(alloc, view, geo, inode) {
-        Ok(d) => d,
-        Err(fault) => return Err(DebugFault::from(fault)),
-    };
-    put_stat(alloc, view, geo, inode, &d, out)
-}
-
-/// Answers `cat` for the inode.
-fn answer_cat<D: Disk, K: Sink, const N: usize>(
-    alloc: Global,
-    view: &mut View<'_, D, N>,
-    geo: &Geo,
-    inode: u64,
-    out: &mut K,
-) -> Result<(), DebugFault>
-    requires geo { LiesIn geo.now view.old }
-    requires inode { inode < view_blocks view.old }
-    requires sysdir { geo.now.sysdir < view_blocks view.old }
-    requires valid { (I : Image) → (view_state view.old).content ≡ Some I → is_valid (volume_seen geo.now I) inode ≡ true }
-    ensures all { (path : List ℕ) → OnOk result ((I : Image) → (view_state view.old).content ≡ Some I → Answers (Cat path) (volume_seen geo.now I) inode (K.state out.old) (K.state out.new)) }
-    ensures some { (path : List ℕ) (I : Image) → (view_state view.old).content ≡ Some I → BeginsAnswer (Cat path) (volume_seen geo.now I) inode (K.state out.old) (K.state out.new) }
-    ensures cut { (path : List ℕ) → IsErrOf result DebugFault.OutputFault → (I : Image) → (view_state view.old).content ≡ Some I
-        → AnswersSome (Cat path) (volume_seen geo.now I) inode (K.state out.old) (K.state out.new) }
-    ensures bad { (path : List ℕ) → IfErr result (λ fault. (check : Check) (b : ℕ) → fault ≡ DebugFault.Bad check b → (I : Image) → (view_state view.old).content ≡ Some I
-        → FailsFor (Cat path) (volume_seen geo.now I) inode check b) }
-    ensures untouched { IfErr result (λ fault. (check : Check) (b : ℕ) → fault ≡ DebugFault.Bad check b → (I : Image) → (view_state view.old).content ≡ Some I → out.new ≡ out.old) }
-    ensures kind { (path : List ℕ) → IsErrOf result DebugFault.WrongKind → (I : Image) → (view_state view.old).content ≡ Some I → IsOfOtherKind (Cat path) (volume_seen geo.now I) inode }
-    ensures unasked { IsErrOf result DebugFault.WrongKind → out.new ≡ out.old }
-    ensures absent { IsErrOf result DebugFault.Absent → ⊥ }
-    ensures reads { OnlyReads view.old view.new }
-    ensures fault { IsErrOf result DebugFault.DeviceFault → Rose (view_state view.old).faults (view_state view.new).faults }
-    ensures output { IsErrOf result DebugFault.OutputFault → FailsLast (K.state out.old) (K.state out.new) }
-    ensures quiet { (IsErrOf result DebugFault.OutputFault → ⊥) → (K.state out.new).faults ≡ (K.state out.old).faults }
-{
-    let d = match judge(alloc, view, geo, inode) {
-        Ok(d) => d,
-        Err(fault) => return Err(DebugFault::from(fault)),
-    };
-    if !is_of_file(&d) {
-        return Err(DebugFault::WrongKind);
+    match query {
+        Query::Ls { .. } => put_ls(alloc, view, geo, inode, out),
+        Query::Stat { .. } => put_stat(alloc, view, geo, inode, d, out),
+        Query::Cat { .. } => put_file(alloc, view, geo, inode, d.size, out),
     }
-    put_file(alloc, view, geo, inode, d.size, out)
 }
 
 /// Answers a query for the inode at the end of its path. Bad where INODE_KIND, EXTENT or INODE_SIZE fails for it, or DIR_BLOCK where
@@ -157,9 +100,12 @@ pub fn answer<D: Disk, K: Sink, const N: usize>(
     ensures output { IsErrOf result DebugFault.OutputFault → FailsLast (K.state out.old) (K.state out.new) }
     ensures quiet { (IsErrOf result DebugFault.OutputFault → ⊥) → (K.state out.new).faults ≡ (K.state out.old).faults }
 {
-    match query {
-        Query::Ls { .. } => answer_ls(alloc, view, geo, inode, out),
-        Query::Stat { .. } => answer_stat(alloc, view, geo, inode, out),
-        Query::Cat { .. } => answer_cat(alloc, view, geo, inode, out),
+    let d = match judge(alloc, view, geo, inode) {
+        Ok(d) => d,
+        Err(fault) => return Err(DebugFault::from(fault)),
+    };
+    if !is_for(query, &d) {
+        return Err(DebugFault::WrongKind);
     }
+    put_answer(alloc, view, geo, query, inode, &d, out)
 }

@@ -17,7 +17,7 @@ ghost use Rattle.o2_extent.specs.Reads.{OnlyReads};
 ghost use Rattle.o2_dir.specs.FileData.{HasBytes};
 ghost use Rattle.o2_debug.specs.Objects.{IsSound, FailsAsObject};
 
-use o2_dir::{DirFault, entries, read_bytes};
+use o2_dir::{DirFault, entries, is_of_file_or_link, read_bytes};
 use o2_disk::Disk;
 use o2_extent::{block_bytes, is_inline};
 use o2_model::{Check, Geo};
@@ -65,17 +65,6 @@ pub fn is_of_file(d: &Dinode) -> bool
 {
     match d.kind() {
         Some(Kind::File) => true,
-        _ => false,
-    }
-}
-
-/// Whether the dinode is one of a file or a link.
-fn is_of_data(d: &Dinode) -> bool
-    ensures { result ≡ (is_file_kind (kind_of_mode d.now.mode) || is_link_kind (kind_of_mode d.now.mode)) }
-{
-    match d.kind() {
-        Some(Kind::File) => true,
-        Some(Kind::Link) => true,
         _ => false,
     }
 }
@@ -190,7 +179,7 @@ pub fn judge<D: Disk, const N: usize>(
         judge_directory(alloc, view, geo, inode)?;
         return Ok(d);
     }
-    if is_of_data(&d) {
+    if is_of_file_or_link(&d) {
         judge_data(alloc, view, geo, inode)?;
         return Ok(d);
     }

@@ -33,7 +33,7 @@ pub fn is_valid_dinode(geo: &Geo, b: u64, dinode: &Dinode) -> bool
 }
 
 /// Whether the dinode is one of a file or of a link.
-fn is_of_file_or_link(dinode: &Dinode) -> bool
+pub fn is_of_file_or_link(dinode: &Dinode) -> bool
     ensures { result ≡ (is_file_kind (kind_of_mode dinode.now.mode) || is_link_kind (kind_of_mode dinode.now.mode)) }
 {
     match dinode.kind() {

@@ -25,7 +25,7 @@ mod sound_inode;
 #[cfg(test)]
 mod testing;
 
-pub use data_inode::has_bytes;
+pub use data_inode::{has_bytes, is_of_file_or_link};
 pub use directory::entries;
 pub use entry::{Entries, Entry};
 pub use fault::{DirFault, PathFault};

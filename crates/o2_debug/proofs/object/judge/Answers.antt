@@ -37,7 +37,7 @@ judge_data-requires g c = (
         λ I after.
             let v = volume_seen c.args.geo.now I in
             let told = sym c.look.ensures.reads.reads.content ∙ after in
-            data_of v c.args.inode c.read_dinode-d.result (c.read_dinode-d.ensures ∙ ap dinode_of (c.as_slice.ensures ∙ c.in_ok-block.ensures.block I told)) (c.requires.valid I told) (sym c.is_of_data.ensures ∙ c.if-is_of_data.true),
+            data_of v c.args.inode c.read_dinode-d.result (c.read_dinode-d.ensures ∙ ap dinode_of (c.as_slice.ensures ∙ c.in_ok-block.ensures.block I told)) (c.requires.valid I told) (sym c.is_of_file_or_link.ensures ∙ c.if-is_of_file_or_link.true),
       ),
     ),
   ),
@@ -64,7 +64,7 @@ returns-then-not-has_sound_rest-clause-bad g c check b is I told =
     let long : length bytes ≡ 2 ^ c.args.geo.now.block_bits = ap length c.as_slice-2.ensures ∙ c.in_ok-block.ensures.size in
     let some : IsSome (kind_of_mode d.mode) = sym c.has_kind.ensures ∙ c.if-not-has_kind.false in
     fails_as v c.args.inode InodeSize check c.args.inode b named placed
-    (rest_fails v c.args.inode d bytes tells (c.as_slice-2.ensures ∙ block) long some (sym c.is_of_directory.ensures ∙ c.if-is_of_directory.false) (sym c.is_of_data.ensures ∙ c.if-is_of_data.false) (sym c.has_sound_rest.ensures ∙ c.if-not-has_sound_rest.true))
+    (rest_fails v c.args.inode d bytes tells (c.as_slice-2.ensures ∙ block) long some (sym c.is_of_directory.ensures ∙ c.if-is_of_directory.false) (sym c.is_of_file_or_link.ensures ∙ c.if-is_of_file_or_link.false) (sym c.has_sound_rest.ensures ∙ c.if-not-has_sound_rest.true))
 
 pub returns-clause-sound : goal.returns-clause-sound
 returns-clause-sound g c I told =
@@ -75,4 +75,4 @@ returns-clause-sound g c I told =
     let tells : d ≡ dinode v c.args.inode = c.read_dinode-d.ensures ∙ ap dinode_of (c.as_slice.ensures ∙ block) in
     let long : length bytes ≡ 2 ^ c.args.geo.now.block_bits = ap length c.as_slice-2.ensures ∙ c.in_ok-block.ensures.size in
     let some : IsSome (kind_of_mode d.mode) = sym c.has_kind.ensures ∙ c.if-not-has_kind.false in
-    sound_rest v c.args.inode d bytes tells (c.as_slice-2.ensures ∙ block) long some (sym c.is_of_directory.ensures ∙ c.if-is_of_directory.false) (sym c.is_of_data.ensures ∙ c.if-is_of_data.false) (sym c.has_sound_rest.ensures ∙ c.if-not-has_sound_rest.false)
+    sound_rest v c.args.inode d bytes tells (c.as_slice-2.ensures ∙ block) long some (sym c.is_of_directory.ensures ∙ c.if-is_of_directory.false) (sym c.is_of_file_or_link.ensures ∙ c.if-is_of_file_or_link.false) (sym c.has_sound_rest.ensures ∙ c.if-not-has_sound_rest.false)
