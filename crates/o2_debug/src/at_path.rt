@@ -63,9 +63,6 @@ pub fn answer_at_path<D: Disk, K: Sink, const N: usize>(
     ensures output { IsErrOf result DebugFault.OutputFault → FailsLast (K.state out.old) (K.state out.new) }
     ensures quiet { (IsErrOf result DebugFault.OutputFault → ⊥) → (K.state out.new).faults ≡ (K.state out.old).faults }
 {
-    let inode = match path(alloc, view, geo, query.path()) {
-        Ok(inode) => inode,
-        Err(fault) => return Err(DebugFault::from(fault)),
-    };
+    let inode = path(alloc, view, geo, query.path())?;
     answer(alloc, view, geo, query, inode, out)
 }

@@ -52,10 +52,7 @@ pub fn put_file<D: Disk, K: Sink, const N: usize>(
     let mut at = 0;
     while at < size {
         let count = PIECE.min(size - at);
-        let piece = match read_bytes(alloc, view, geo, inode, at, count as u32) {
-            Ok(piece) => piece,
-            Err(fault) => return Err(DebugFault::from(fault)),
-        };
+        let piece = read_bytes(alloc, view, geo, inode, at, count as u32)?;
         let Ok(()) = put_text(out, piece.as_slice()) else {
             return Err(DebugFault::OutputFault);
         };

@@ -54,8 +54,6 @@ pub fn command<D: Disk, K: Sink, const N: usize>(
     ensures output { IsErrOf result DebugFault.OutputFault → FailsLast (K.state out.old) (K.state out.new) }
     ensures quiet { (IsErrOf result DebugFault.OutputFault → ⊥) → (K.state out.new).faults ≡ (K.state out.old).faults }
 {
-    match judge_skeleton(alloc, view, geo) {
-        Ok(()) => answer_at_path(alloc, view, geo, query, out),
-        Err(fault) => Err(DebugFault::from(fault)),
-    }
+    judge_skeleton(alloc, view, geo)?;
+    answer_at_path(alloc, view, geo, query, out)
 }

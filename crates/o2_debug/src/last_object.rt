@@ -100,10 +100,7 @@ pub fn answer<D: Disk, K: Sink, const N: usize>(
     ensures output { IsErrOf result DebugFault.OutputFault → FailsLast (K.state out.old) (K.state out.new) }
     ensures quiet { (IsErrOf result DebugFault.OutputFault → ⊥) → (K.state out.new).faults ≡ (K.state out.old).faults }
 {
-    let d = match judge(alloc, view, geo, inode) {
-        Ok(d) => d,
-        Err(fault) => return Err(DebugFault::from(fault)),
-    };
+    let d = judge(alloc, view, geo, inode)?;
     if !is_for(query, &d) {
         return Err(DebugFault::WrongKind);
     }

@@ -68,10 +68,7 @@ pub fn put_ls<D: Disk, K: Sink, const N: usize>(
     ensures output { IsErrOf result DebugFault.OutputFault → FailsLast (K.state out.old) (K.state out.new) }
     ensures quiet { (IsErrOf result DebugFault.OutputFault → ⊥) → (K.state out.new).faults ≡ (K.state out.old).faults }
 {
-    let lines = match ls_lines(alloc, view, geo, inode) {
-        Ok(lines) => lines,
-        Err(fault) => return Err(DebugFault::from(fault)),
-    };
+    let lines = ls_lines(alloc, view, geo, inode)?;
     put_all(out, &lines)
 }
 
@@ -99,9 +96,6 @@ pub fn put_stat<D: Disk, K: Sink, const N: usize>(
     ensures output { IsErrOf result DebugFault.OutputFault → FailsLast (K.state out.old) (K.state out.new) }
     ensures quiet { (IsErrOf result DebugFault.OutputFault → ⊥) → (K.state out.new).faults ≡ (K.state out.old).faults }
 {
-    let lines = match stat_lines(alloc, view, geo, inode, d) {
-        Ok(lines) => lines,
-        Err(fault) => return Err(DebugFault::from(fault)),
-    };
+    let lines = stat_lines(alloc, view, geo, inode, d)?;
     put_all(out, &lines)
 }

@@ -43,10 +43,7 @@ pub fn ls_lines<D: Disk, const N: usize>(
     ensures reads { OnlyReads view.old view.new }
     ensures fault { IsErrOf result DirFault.DeviceFault → Rose (view_state view.old).faults (view_state view.new).faults }
 {
-    let found = match entries(alloc, view, geo, inode) {
-        Ok(found) => found,
-        Err(fault) => return Err(fault),
-    };
+    let found = entries(alloc, view, geo, inode)?;
     match entry_lines(alloc, found.as_slice()) {
         Ok(lines) => Ok(lines),
         Err(_) => Err(DirFault::NoMemory),
@@ -80,10 +77,7 @@ pub fn stat_lines<D: Disk, const N: usize>(
     ensures reads { OnlyReads view.old view.new }
     ensures fault { IsErrOf result ReadFault.DeviceFault → Rose (view_state view.old).faults (view_state view.new).faults }
 {
-    let leaves = match records(alloc, view, geo, inode) {
-        Ok(leaves) => leaves,
-        Err(fault) => return Err(fault),
-    };
+    let leaves = records(alloc, view, geo, inode)?;
     match told_lines(alloc, inode, d, leaves.as_slice()) {
         Ok(lines) => Ok(lines),
         Err(_) => Err(ReadFault::NoMemory),

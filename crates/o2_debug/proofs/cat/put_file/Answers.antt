@@ -6,23 +6,23 @@ use Rattle.o2_disk.proofs.Sinks.{fails_behind}
 use Rattle.o2_debug.proofs.CatLemmas.{so_far, at_end, piece_more, some_more}
 use Rattle.o2_debug.proofs.cat.put_file.Goals as goal
 
-pub returns-in-Err-clause-some : goal.returns-in-Err-clause-some
-returns-in-Err-clause-some g c I told = so_far (volume_seen c.args.geo.now I) c.args.inode c.loop-at.at (c.loop-at.invariant.taken I told)
+pub returns-in_err-piece-clause-some : goal.returns-in_err-piece-clause-some
+returns-in_err-piece-clause-some g c I told = so_far (volume_seen c.args.geo.now I) c.args.inode c.loop-at.at (c.loop-at.invariant.taken I told)
 
 pub returns-in_default-clause-some : goal.returns-in_default-clause-some
 returns-in_default-clause-some g c I told =
     let v = volume_seen c.args.geo.now I in
     some_more v c.args.inode c.loop-at.at (c.loop-at.invariant.taken I told) (g.K.Sink.state c.put_text.new.out) c.min-count.result c.as_slice.result.now
-    (c.as_slice.ensures ∙ c.in-Ok.ensures.bytes I (c.loop-at.invariant.reads.reads.content ∙ told)) c.put_text.ensures.some
+    (c.as_slice.ensures ∙ c.in_ok-piece.ensures.bytes I (c.loop-at.invariant.reads.reads.content ∙ told)) c.put_text.ensures.some
 
 pub loop-at-preserved : goal.loop-at-preserved
 loop-at-preserved g c = record {
   within = omega (arith, c.loop-at-test.true, c.min-count.ensures);
   taken = λ I told.
       piece_more (volume_seen c.args.geo.now I) c.args.inode c.loop-at.at (c.loop-at.invariant.taken I told) (g.K.Sink.state c.put_text.new.out) c.min-count.result c.as_slice.result.now
-      (c.as_slice.ensures ∙ c.in-Ok.ensures.bytes I (c.loop-at.invariant.reads.reads.content ∙ told)) c.in-Ok-put_text.ensures.all;
+      (c.as_slice.ensures ∙ c.in_ok-piece.ensures.bytes I (c.loop-at.invariant.reads.reads.content ∙ told)) c.in-Ok.ensures.all;
   reads = only_both c.loop-at.invariant.reads c.read_bytes.ensures.reads;
-  faults = c.in-Ok-put_text.ensures.cause.ok ∙ c.loop-at.invariant.faults;
+  faults = c.in-Ok.ensures.cause.ok ∙ c.loop-at.invariant.faults;
 }
 
 pub returns-clause-all : goal.returns-clause-all

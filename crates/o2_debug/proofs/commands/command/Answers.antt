@@ -10,38 +10,38 @@ pub answer_at_path-requires : goal.answer_at_path-requires
 answer_at_path-requires g c = (
   omega arith,
   (
-    still_in c.in-Ok.ensures.lies c.judge_skeleton.ensures.reads,
+    still_in c.in_ok-judge_skeleton.ensures.lies c.judge_skeleton.ensures.reads,
     (
-      omega (arith, c.in-Ok.ensures.root, c.judge_skeleton.ensures.reads.same.blocks),
+      omega (arith, c.in_ok-judge_skeleton.ensures.root, c.judge_skeleton.ensures.reads.same.blocks),
       (
-        omega (arith, c.in-Ok.ensures.sysdir, c.judge_skeleton.ensures.reads.same.blocks),
+        omega (arith, c.in_ok-judge_skeleton.ensures.sysdir, c.judge_skeleton.ensures.reads.same.blocks),
         (
           c.requires.path,
-          λ I after. starts (volume_seen c.args.geo.now I) (c.in-Ok.ensures.sound I (sym c.judge_skeleton.ensures.reads.reads.content ∙ after)),
+          λ I after. starts (volume_seen c.args.geo.now I) (c.in_ok-judge_skeleton.ensures.sound I (sym c.judge_skeleton.ensures.reads.reads.content ∙ after)),
         ),
       ),
     ),
   ),
 )
 
-pub returns-in-Ok-clause-bad : goal.returns-in-Ok-clause-bad
-returns-in-Ok-clause-bad g c =
+pub returns-clause-bad : goal.returns-clause-bad
+returns-clause-bad g c =
     IfErr-weaker c.answer_at_path.result _ _
-    (λ fault bad check b is I told. inr (c.in-Ok.ensures.sound I told, bad check b is I (c.judge_skeleton.ensures.reads.reads.content ∙ told)))
+    (λ fault bad check b is I told. inr (c.in_ok-judge_skeleton.ensures.sound I told, bad check b is I (c.judge_skeleton.ensures.reads.reads.content ∙ told)))
     c.answer_at_path.ensures.bad
 
-pub returns-in-Ok-clause-untouched : goal.returns-in-Ok-clause-untouched
-returns-in-Ok-clause-untouched g c =
+pub returns-clause-untouched : goal.returns-clause-untouched
+returns-clause-untouched g c =
     IfErr-weaker c.answer_at_path.result _ _
     (λ fault same check b is I told. same check b is I (c.judge_skeleton.ensures.reads.reads.content ∙ told))
     c.answer_at_path.ensures.untouched
 
-pub returns-in-Ok-clause-some : goal.returns-in-Ok-clause-some
-returns-in-Ok-clause-some g c I told =
+pub returns-clause-some : goal.returns-clause-some
+returns-clause-some g c I told =
     elim (c.answer_at_path.ensures.some I (c.judge_skeleton.ensures.reads.reads.content ∙ told)) [
       | inl nothing ↦ inl nothing
-      | inr put ↦ inr (c.in-Ok.ensures.sound I told, put)
+      | inr put ↦ inr (c.in_ok-judge_skeleton.ensures.sound I told, put)
     ]
 
-pub returns-in-Ok-clause-cut : goal.returns-in-Ok-clause-cut
-returns-in-Ok-clause-cut g c failed I told = (c.in-Ok.ensures.sound I told, c.answer_at_path.ensures.cut failed I (c.judge_skeleton.ensures.reads.reads.content ∙ told))
+pub returns-clause-cut : goal.returns-clause-cut
+returns-clause-cut g c failed I told = (c.in_ok-judge_skeleton.ensures.sound I told, c.answer_at_path.ensures.cut failed I (c.judge_skeleton.ensures.reads.reads.content ∙ told))

@@ -18,12 +18,12 @@ put_answer-requires g c = (
         (
           λ I after. c.requires.valid I (sym c.judge.ensures.reads.reads.content ∙ after),
           (
-            λ I after. c.in-Ok.ensures.dinode I (sym c.judge.ensures.reads.reads.content ∙ after),
+            λ I after. c.in_ok-d.ensures.dinode I (sym c.judge.ensures.reads.reads.content ∙ after),
             (
-              λ I after. c.in-Ok.ensures.sound I (sym c.judge.ensures.reads.reads.content ∙ after),
+              λ I after. c.in_ok-d.ensures.sound I (sym c.judge.ensures.reads.reads.content ∙ after),
               λ I after.
                   let told = sym c.judge.ensures.reads.reads.content ∙ after in
-                  asked_kind (volume_seen c.args.geo.now I) c.args.inode c.in-Ok.d (c.in-Ok.ensures.dinode I told) c.args.query.now _ (sym c.is_for.ensures ∙ c.if-not-is_for.false),
+                  asked_kind (volume_seen c.args.geo.now I) c.args.inode c.in_ok-d.d (c.in_ok-d.ensures.dinode I told) c.args.query.now _ (sym c.is_for.ensures ∙ c.if-not-is_for.false),
             ),
           ),
         ),
@@ -34,8 +34,8 @@ put_answer-requires g c = (
 
 pub returns-then-not-is_for-clause-kind : goal.returns-then-not-is_for-clause-kind
 returns-then-not-is_for-clause-kind g c is I told = record {
-  sound = c.in-Ok.ensures.sound I told;
-  kind = asked_kind (volume_seen c.args.geo.now I) c.args.inode c.in-Ok.d (c.in-Ok.ensures.dinode I told) c.args.query.now _ (sym c.is_for.ensures ∙ c.if-not-is_for.true);
+  sound = c.in_ok-d.ensures.sound I told;
+  kind = asked_kind (volume_seen c.args.geo.now I) c.args.inode c.in_ok-d.d (c.in_ok-d.ensures.dinode I told) c.args.query.now _ (sym c.is_for.ensures ∙ c.if-not-is_for.true);
 }
 
 pub returns-clause-all : goal.returns-clause-all

@@ -4,7 +4,7 @@ use Rattle.o2_extent.specs.Seen.{volume_seen}
 use Rattle.o2_debug.proofs.TextLemmas.{stat_is}
 use Rattle.o2_debug.proofs.text.stat_lines.Goals as goal
 
-pub returns-in-Ok-told_lines-clause-text : goal.returns-in-Ok-told_lines-clause-text
-returns-in-Ok-told_lines-clause-text g c I told =
-    stat_is (volume_seen c.args.geo.now I) c.args.inode c.args.d.now c.as_slice.result.now c.in-Ok-told_lines.lines
-    (c.requires.dinode I told) (c.as_slice.ensures ∙ c.in-Ok.ensures.leaves I told) c.in-Ok-told_lines.ensures
+pub returns-in-Ok-clause-text : goal.returns-in-Ok-clause-text
+returns-in-Ok-clause-text g c I told =
+    stat_is (volume_seen c.args.geo.now I) c.args.inode c.args.d.now c.as_slice.result.now c.in-Ok.lines
+    (c.requires.dinode I told) (c.as_slice.ensures ∙ c.in_ok-leaves.ensures.leaves I told) c.in-Ok.ensures
