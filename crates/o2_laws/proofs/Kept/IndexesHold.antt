@@ -13,7 +13,7 @@ use Rattle.o2_model.specs.Allocators.{are_metadata}
 use Rattle.o2_model.specs.Groups.{is_inode, inodes_of}
 use Rattle.o2_model.specs.Metadata.{Origin, extent_block_origin, has_slot_and_bit, group_with_bit, is_on_metadata_bit}
 use Rattle.o2_model.specs.Indexes.{is_indexed, indexed_directories, index_root, is_index_root, is_inline_index, index_extents, index_leaves, is_sound_index_leaf}
-use Rattle.o2_model.specs.SoundIndexes.{is_own_block, index_root_origin, has_sound_index_root, has_sound_index_lists, has_own_index_clusters, has_trailers, has_sound_index_counts, is_found_in_index, is_sound_index}
+use Rattle.o2_model.specs.SoundIndexes.{is_own_block, index_root_origin, has_sound_index_root, has_sound_index_lists, is_sound_index}
 use Rattle.o2_model.specs.Claims.{claims_before_index, claimed_clusters}
 use Rattle.o2_model.specs.Checks.Dx.{holds_index, dx_faults}
 use Rattle.o2_model.specs.Failing.{faults, failing}

@@ -1,5 +1,5 @@
 -- The inode is sound, and of a kind that the query is for.
-use Rattle.std.proofs.Common.{◌≡◌, true, arith, sym, ◌∙◌}
+use Rattle.std.proofs.Common.{arith, sym, ◌∙◌}
 use Rattle.std.proofs.lemmas.Result.{IfErr-weaker, on_ok_weaker}
 use Rattle.o2_extent.specs.Seen.{volume_seen}
 use Rattle.o2_extent.proofs.Views.{still_in}

@@ -1,5 +1,5 @@
 -- The text of each query, for an inode that is sound and of its kind.
-use Rattle.std.proofs.Common.{◌≡◌, inl, inr, ℕ, true, List, arith, ap, subst}
+use Rattle.std.proofs.Common.{◌≡◌, inl, inr, true, arith, ap, subst}
 use Rattle.std.proofs.lemmas.Result.{IfErr-weaker}
 use Rattle.o2_ondisk.specs.declared.dinode.Dinode.{Dinode}
 use Rattle.o2_model.specs.Inodes.{kind}

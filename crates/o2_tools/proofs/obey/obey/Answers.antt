@@ -1,5 +1,5 @@
 -- The query that was read is the one that the words ask for.
-use Rattle.std.proofs.Common.{sym, subst}
+use Rattle.std.proofs.Common.{subst}
 use Rattle.o2_debug.specs.declared.query.Query.{Query}
 use Rattle.o2_tools.specs.CommandLine.{texts, word_of}
 use Rattle.o2_tools.specs.Commands.{Says}
