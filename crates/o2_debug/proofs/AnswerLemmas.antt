@@ -16,7 +16,7 @@ use Rattle.o2_debug.specs.declared.query.Query.{Query}
 use Rattle.o2_debug.specs.declared.query.Query.TheVariants.{Ls, Stat, Cat}
 use Rattle.o2_debug.specs.Objects.{IsSound}
 use Rattle.o2_debug.specs.Answers.{is_for, IsAnswerable, Answers, IsOfOtherKind, FailsFor}
-use Rattle.o2_debug.specs.Taken.{Takes}
+use Rattle.o2_cause.specs.Taken.{Takes}
 use Rattle.o2_debug.specs.Texts.{ls_text, stat_text, cat_text}
 
 -- nothing is the least of none

@@ -9,8 +9,8 @@ use Rattle.o2_dir.specs.Paths.{Begins, Leads}
 use Rattle.o2_debug.specs.declared.query.Query.{Query}
 use Rattle.o2_debug.specs.Answers.{path_of, text_of, IsAnswerable}
 use Rattle.o2_debug.specs.Commands.{HasStarts, IsAnswerText}
-use Rattle.o2_debug.specs.Taken.{TakesSome}
-use Rattle.o2_debug.proofs.Fronts.{takes_nothing, all_is_some, some_of_both}
+use Rattle.o2_cause.specs.Taken.{TakesSome}
+use Rattle.o2_cause.proofs.Fronts.{takes_nothing, all_is_some, some_of_both}
 
 -- the names of what follows the beginning of a path
 record Named (rest : List ℕ) : Type 0 where

@@ -9,8 +9,8 @@ use Rattle.o2_model.specs.Volume.{Volume, dinode}
 use Rattle.o2_model.specs.Inodes.{is_inline, is_fast_link, leaf_records}
 use Rattle.o2_model.specs.Contents.{bytes_of, byte_of}
 use Rattle.o2_debug.specs.Texts.{cat_text}
-use Rattle.o2_debug.specs.Taken.{Takes, TakesSome}
-use Rattle.o2_debug.proofs.Fronts.{takes_both, takes_as, takes_whole, stopped_at, some_of_next, some_of_both, some_as}
+use Rattle.o2_cause.specs.Taken.{Takes, TakesSome}
+use Rattle.o2_cause.proofs.Fronts.{takes_both, takes_as, takes_whole, stopped_at, some_of_next, some_of_both, some_as}
 
 -- there are at most i_size of them
 first_few : (n : ℕ) (bytes : List ℕ) → length (take n bytes) ≤ n

@@ -1,7 +1,6 @@
 pub mod AnswerLemmas
 pub mod AtPath
 pub mod CatLemmas
-pub mod Fronts
 pub mod Judged
 pub mod Starts
 pub mod TextLemmas

@@ -11,7 +11,7 @@ use Rattle.o2_model.specs.Checks.DirBlock.{dir_block_faults}
 use Rattle.o2_debug.specs.declared.query.Query.{Query}
 use Rattle.o2_debug.specs.declared.query.Query.TheVariants.{Ls, Stat, Cat}
 use Rattle.o2_debug.specs.Objects.{IsSound, FailsAsObject}
-use Rattle.o2_debug.specs.Taken.{Takes, TakesSome}
+use Rattle.o2_cause.specs.Taken.{Takes, TakesSome}
 use Rattle.o2_debug.specs.Texts.{ls_text, stat_text, cat_text}
 
 -- the path of the query

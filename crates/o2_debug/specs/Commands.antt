@@ -6,7 +6,7 @@ use Rattle.o2_model.specs.Volume.{Volume, is_valid}
 use Rattle.o2_dir.specs.Paths.{Begins, Leads, OnTheWay, Lacks, IsNoDirectory, FailsAt}
 use Rattle.o2_debug.specs.declared.query.Query.{Query}
 use Rattle.o2_debug.specs.Answers.{path_of, text_of, IsAnswerable, IsOfOtherKind, FailsFor}
-use Rattle.o2_debug.specs.Taken.{Takes, TakesSome}
+use Rattle.o2_cause.specs.Taken.{Takes, TakesSome}
 
 -- the inodes at which paths begin are valid dinodes
 pub record HasStarts (v : Volume) : Type 0 where

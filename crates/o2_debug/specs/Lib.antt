@@ -1,4 +1,3 @@
-pub mod Taken
 pub mod Answers
 pub mod Commands
 pub mod Faults

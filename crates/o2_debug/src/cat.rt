@@ -11,10 +11,10 @@ ghost use Rattle.o2_extent.specs.Seen.{LiesIn, volume_seen};
 ghost use Rattle.o2_extent.specs.Reads.{OnlyReads};
 ghost use Rattle.o2_dir.specs.FileData.{HasBytes, DataFailsFirst};
 ghost use Rattle.o2_debug.specs.Texts.{cat_text};
-ghost use Rattle.o2_debug.specs.Taken.{Takes, TakesSome};
+ghost use Rattle.o2_cause.specs.Taken.{Takes, TakesSome};
 
 use crate::DebugFault;
-use crate::output::put_text;
+use o2_cause::put_text;
 use o2_dir::read_bytes;
 use o2_disk::{Disk, Sink};
 use o2_model::Geo;

@@ -8,14 +8,14 @@ mod fault;
 mod last_object;
 mod lines;
 mod object;
-mod output;
 mod put;
 mod query;
 #[cfg(test)]
 mod tests;
 mod text;
+mod whole_device;
 
 pub use commands::command;
 pub use fault::DebugFault;
-pub use output::put_text;
 pub use query::Query;
+pub use whole_device::ask;

@@ -14,12 +14,12 @@ ghost use Rattle.o2_model.specs.Inodes.{is_directory};
 ghost use Rattle.o2_extent.specs.Seen.{LiesIn, volume_seen};
 ghost use Rattle.o2_extent.specs.Reads.{OnlyReads};
 ghost use Rattle.o2_dir.specs.Fails.{FailsNone, FailsFirst};
-ghost use Rattle.o2_debug.specs.Taken.{Takes, TakesSome};
+ghost use Rattle.o2_cause.specs.Taken.{Takes, TakesSome};
 ghost use Rattle.o2_debug.specs.Texts.{ls_text, stat_text};
 
 use crate::DebugFault;
 use crate::lines::Lines;
-use crate::output::put_lines;
+use o2_cause::put_lines;
 use crate::text::{ls_lines, stat_lines};
 use o2_disk::{Disk, Sink};
 use o2_model::Geo;

@@ -1,14 +1,9 @@
 // Queries of a small volume in memory.
-ghost use Rattle.std.specs.Prelude.{◌≤◌};
-ghost use Rattle.o2_dir.specs.PathTexts.{IsPath};
-ghost use Rattle.o2_debug.specs.Answers.{path_of};
-
-use crate::{DebugFault, Query, command, put_text};
+use crate::{DebugFault, Query, ask};
 use o2_dir::{PathText, is_path};
 use o2_disk::{Disk, How, MemDisk, MemSink};
-use o2_model::Geo;
 use o2_test_volumes::put_small_volume;
-use o2_view::{View, find_super};
+use o2_view::find_super;
 use std::alloc::Global;
 use std::process::Abort;
 use std::test::Fail;
@@ -21,27 +16,8 @@ fn volume(rt: &impl Abort, alloc: Global) -> Result<MemDisk, Fail> {
     Ok(disk)
 }
 
-// Answers a query on the volume of these numbers, over all whole blocks of the disk.
-fn answered<D: Disk>(
-    alloc: Global,
-    disk: &mut D,
-    geo: &Geo,
-    query: &Query,
-    out: &mut MemSink,
-) -> Result<(), DebugFault>
-    requires least { 9 ≤ geo.now.block_bits }
-    requires most { geo.now.block_bits ≤ 12 }
-    requires path { IsPath (path_of query.now) }
-{
-    let blocks = disk.sectors() >> (geo.block_bits - 9);
-    let Ok(mut view) = View::<D, 16>::new(alloc, disk, geo.block_bits, blocks) else {
-        return Err(DebugFault::NoMemory);
-    };
-    command(alloc, &mut view, geo, query, out)
-}
-
 // The answer to a query, and what was put.
-fn ask(
+fn answered(
     rt: &impl Abort,
     alloc: Global,
     disk: &mut MemDisk,
@@ -54,7 +30,7 @@ fn ask(
     assert!(rt; geo.block_bits >= 9);
     assert!(rt; geo.block_bits <= 12);
     assert!(rt; is_path(query.path()));
-    match answered(alloc, disk, &geo, query, out) {
+    match ask(alloc, disk, &geo, query, out) {
         Ok(()) => Ok(None),
         Err(fault) => Ok(Some(fault)),
     }
@@ -72,13 +48,13 @@ fn answers_queries(rt: HostRuntime) -> Result<(), Fail> {
     let query = Query::Ls {
         path: path(alloc, "/")?,
     };
-    assert_eq!(rt; ask(&rt, alloc, &mut disk, &query, &mut out)?, None);
+    assert_eq!(rt; answered(&rt, alloc, &mut disk, &query, &mut out)?, None);
     assert_eq!(rt; out.bytes(), b"5 2 .\n5 2 ..\n8 1 a\n".as_slice());
     let mut out = MemSink::new(alloc);
     let query = Query::Stat {
         path: path(alloc, "/a")?,
     };
-    assert_eq!(rt; ask(&rt, alloc, &mut disk, &query, &mut out)?, None);
+    assert_eq!(rt; answered(&rt, alloc, &mut disk, &query, &mut out)?, None);
     assert!(rt;
         out.bytes()
             .starts_with(b"Inode: 8\nKind: file\nMode: 0644\n")
@@ -88,7 +64,7 @@ fn answers_queries(rt: HostRuntime) -> Result<(), Fail> {
     let query = Query::Cat {
         path: path(alloc, "/a")?,
     };
-    assert_eq!(rt; ask(&rt, alloc, &mut disk, &query, &mut out)?, None);
+    assert_eq!(rt; answered(&rt, alloc, &mut disk, &query, &mut out)?, None);
     assert_eq!(rt; out.bytes().len(), 5000);
     assert!(rt; out.bytes().starts_with(&[b'a'; 4096]));
     assert!(rt; out.bytes().ends_with(&[0; 904]));
@@ -108,19 +84,9 @@ fn refuses_queries(rt: HostRuntime) -> Result<(), Fail> {
         let query = Query::Cat {
             path: path(alloc, text)?,
         };
-        let answer = ask(&rt, alloc, &mut disk, &query, &mut out)?;
+        let answer = answered(&rt, alloc, &mut disk, &query, &mut out)?;
         assert_eq!(rt; answer, Some(fault), "{text}");
         assert_eq!(rt; out.bytes().len(), 0, "{text}");
     }
     Ok(())
-}
-
-#[test]
-fn puts_text(rt: HostRuntime) {
-    let mut out = MemSink::new(rt.alloc());
-    out.fail_at(1);
-    assert!(rt; put_text(&mut out, b"a text").is_ok());
-    assert_eq!(rt; out.bytes(), b"a text".as_slice());
-    assert!(rt; put_text(&mut out, b" more").is_err());
-    assert_eq!(rt; out.bytes(), b"a text".as_slice());
 }

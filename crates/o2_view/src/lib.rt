@@ -3,6 +3,7 @@
 
 mod block;
 mod fault;
+mod features;
 mod items;
 mod run;
 mod slot_part;
@@ -12,6 +13,7 @@ mod which;
 
 pub use block::Block;
 pub use fault::{ReadFault, ViewFault};
+pub use features::unsupported;
 pub use items::{Blocks, Bytes, Items, Numbers, Pairs, Runs};
 pub use o2_model::{Check, Geo, Oddity};
 pub use run::Run;

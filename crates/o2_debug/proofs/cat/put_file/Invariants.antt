@@ -5,7 +5,7 @@ use Rattle.o2_view.specs.Views.{view_state}
 use Rattle.o2_model.specs.Contents.{bytes_of}
 use Rattle.o2_extent.specs.Seen.{volume_seen}
 use Rattle.o2_extent.specs.Reads.{OnlyReads}
-use Rattle.o2_debug.specs.Taken.{Takes}
+use Rattle.o2_cause.specs.Taken.{Takes}
 use Rattle.o2_debug.proofs.cat.put_file.Given as goal
 
 abbrev pub invariant-loop-at : goal.invariant-loop-at

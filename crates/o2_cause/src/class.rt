@@ -1,0 +1,12 @@
+// What kind of end a cause is.
+
+/// What kind of end a cause is.
+#[derive(Clone, Copy, Debug, PartialEq, Eq)]
+pub enum Class {
+    /// All was done, maybe but for the output.
+    Done,
+    /// The run gave nothing up and met no fault: it was asked what can't be done.
+    Refusal,
+    /// The device failed, or memory ran out.
+    Fault,
+}

@@ -1,0 +1,3 @@
+pub mod Opened
+pub mod Runs
+pub mod Told

@@ -1,0 +1,2 @@
+pub mod QueryRun
+pub mod Replies

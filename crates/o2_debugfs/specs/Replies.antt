@@ -1,0 +1,94 @@
+-- The report of a query, and when each cause comes.
+use Rattle.std.specs.Prelude.{◌≡◌, ◌⊎◌, ℕ, List, codes, Some, None}
+use Rattle.o2_disk.specs.Device.{Rose}
+use Rattle.o2_disk.specs.Output.{SinkState}
+use Rattle.o2_model.specs.Image.{Image}
+use Rattle.o2_model.specs.Superblock.{superblock_bits}
+use Rattle.o2_model.specs.Features.{unsupported_feature}
+use Rattle.o2_model.specs.Volume.{Volume, opened}
+use Rattle.o2_check.specs.Skeleton.{HasSkeleton, FailsFirst}
+use Rattle.o2_cause.specs.Causes.{cause_line, IsRefusal}
+use Rattle.o2_cause.specs.Taken.{Takes, TakesSome}
+use Rattle.o2_cause.specs.declared.cause.Cause.{Cause}
+use Rattle.o2_cause.specs.declared.cause.Cause.TheVariants.{Fine, NotOcfs2, Unsupported, Absent, WrongKind, Bad, DeviceFault, OutputFault, NoMemory}
+use Rattle.o2_debug.specs.Answers.{path_of}
+use Rattle.o2_debug.specs.Commands.{IsAnswerText, IsAbsent, IsOfWrongKind, FailsOn}
+use Rattle.o2_debug.specs.declared.fault.DebugFault.{DebugFault}
+use Rattle.o2_debug.specs.declared.fault.DebugFault.TheVariants as debug
+use Rattle.o2_debug.specs.declared.query.Query.{Query}
+
+-- the image has a volume with nothing unsupported in its superblock, and this holds of it
+pub record IsServed (I : Image) (P : Volume → Type 0) : Type 0 where
+  pub volume : Volume
+  pub is : opened I ≡ Some volume
+  pub supported : unsupported_feature I ≡ None
+  pub holds : P volume
+
+-- ---- the report of a query
+-- This text is the report of the query: it answers the query, and stands where Fine would. Any other query has none.
+abbrev pub IsReportOf : Query → Image → List ℕ → Type 0
+IsReportOf query I text = IsServed I (λ v. HasSkeleton v × IsAnswerText query v text)
+
+-- the query has a report
+abbrev pub HasReport : Query → Image → Type 0
+HasReport query I = (text : List ℕ) × IsReportOf query I text
+
+-- the sink took the report
+abbrev pub TakesReport : Query → Image → SinkState → SinkState → Type 0
+TakesReport query I old new = (text : List ℕ) × (IsReportOf query I text × Takes old new text)
+
+-- or its first bytes, maybe none or all
+abbrev pub TakesSomeOfReport : Query → Image → SinkState → SinkState → Type 0
+TakesSomeOfReport query I old new = (text : List ℕ) × (IsReportOf query I text × TakesSome old new text)
+
+-- nothing was put, or first bytes of the report
+abbrev pub BeginsReport : Query → Image → SinkState → SinkState → Type 0
+BeginsReport query I old new = (new ≡ old) ⊎ TakesSomeOfReport query I old new
+
+-- What the sink took of a query that ended by this cause: first bytes of the report, none of one that was refused, and
+-- then the cause's line, which is whole where the sink did not fail.
+pub record IsReply (query : Query) (I : Image) (cause : Cause) (old new : SinkState) : Type 0 where
+  pub between : SinkState
+  pub report : BeginsReport query I old between
+  pub refused : IsRefusal cause → between ≡ old
+  pub line : TakesSome between new (cause_line (codes "debugfs") cause)
+  pub whole : (Rose old.faults new.faults → ⊥) → Takes between new (cause_line (codes "debugfs") cause)
+
+-- ---- the causes
+-- When each cause answers a query, where the device has this content. A fault and want of memory come where they happen.
+abbrev pub ComesFor : Query → Image → Cause → Type 0
+ComesFor query I Fine = HasReport query I
+ComesFor query I OutputFault = HasReport query I
+ComesFor query I NotOcfs2 = superblock_bits I ≡ None
+ComesFor query I (Unsupported what block) = (unsupported_feature I ≡ Some what) × (block ≡ 2)
+ComesFor query I (Bad check b) = IsServed I (λ v. FailsFirst v check b ⊎ (HasSkeleton v × FailsOn query v check b))
+ComesFor query I (Absent path) = (path ≡ path_of query) × IsServed I (λ v. HasSkeleton v × IsAbsent query v)
+ComesFor query I (WrongKind path) = (path ≡ path_of query) × IsServed I (λ v. HasSkeleton v × IsOfWrongKind query v)
+ComesFor query I DeviceFault = Unit {0}
+ComesFor query I NoMemory = Unit {0}
+ComesFor query I _ = ⊥
+
+-- why a device is not opened for a query, where it has this content
+abbrev pub RefusesVolume : Image → Cause → Type 0
+RefusesVolume I NotOcfs2 = superblock_bits I ≡ None
+RefusesVolume I (Unsupported what block) = (unsupported_feature I ≡ Some what) × (block ≡ 2)
+RefusesVolume I DeviceFault = Unit {0}
+RefusesVolume I NoMemory = Unit {0}
+RefusesVolume I _ = ⊥
+
+-- the causes for which a device is not opened
+abbrev pub IsOfOpening : Cause → Type 0
+IsOfOpening NotOcfs2 = Unit {0}
+IsOfOpening (Unsupported what block) = Unit {0}
+IsOfOpening DeviceFault = Unit {0}
+IsOfOpening NoMemory = Unit {0}
+IsOfOpening _ = ⊥
+
+-- the cause of the same name, with the query's whole path
+abbrev pub cause_of_query : Query → DebugFault → Cause
+cause_of_query query debug.NoMemory = NoMemory
+cause_of_query query debug.DeviceFault = DeviceFault
+cause_of_query query debug.OutputFault = OutputFault
+cause_of_query query debug.Absent = Absent (path_of query)
+cause_of_query query debug.WrongKind = WrongKind (path_of query)
+cause_of_query query (debug.Bad check block) = Bad check block

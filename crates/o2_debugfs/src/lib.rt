@@ -1,0 +1,10 @@
+//! What `debugfs` does: the answer to a query, and nothing written.
+#![tactic(auto)]
+
+mod open;
+mod run;
+mod tell;
+#[cfg(test)]
+mod tests;
+
+pub use run::run_query;

@@ -1,0 +1,77 @@
+// The answer to a query, by the name of its device.
+ghost use Rattle.std.specs.Prelude.{◌≡◌, ◌≢◌, Some, OnOk, IfErr, IsErrOf};
+ghost use Rattle.o2_disk.specs.Device.{ReadsOnly, Rose, IsAttachedOnce, IsAttachedAtMostOnce, IsWritable};
+ghost use Rattle.o2_disk.specs.Output.{FailsLast};
+ghost use Rattle.o2_model.specs.Image.{Image};
+ghost use Rattle.o2_dir.specs.PathTexts.{IsPath};
+ghost use Rattle.o2_debug.specs.Answers.{path_of};
+ghost use Rattle.o2_cause.specs.Causes.{IsRefusal};
+ghost use Rattle.o2_debugfs.specs.QueryRun.{IsOfQuery};
+ghost use Rattle.o2_debugfs.specs.Replies.{ComesFor, TakesReport, TakesSomeOfReport, BeginsReport, cause_of_query};
+
+use crate::open::open_for_reading;
+use o2_cause::Cause;
+use o2_debug::{DebugFault, Query, ask};
+use o2_dir::PathText;
+use o2_disk::{Disk, How, Sink};
+use std::alloc::Global;
+
+/// Puts the answer to a query on `out`. The device of that name is only read.
+pub fn tell<D: Disk, K: Sink>(
+    alloc: Global,
+    device: &mut D,
+    name: &str,
+    query: Query,
+    out: &mut K,
+) -> Result<(), Cause>
+    requires path { IsPath (path_of query) }
+    ensures report { OnOk result ((I : Image) → (D.state device.old).content ≡ Some I → TakesReport query I (K.state out.old) (K.state out.new)) }
+    ensures told { IfErr result (λ cause. (I : Image) → (D.state device.old).content ≡ Some I → ComesFor query I cause) }
+    ensures cut { IsErrOf result Cause.OutputFault → (I : Image) → (D.state device.old).content ≡ Some I → TakesSomeOfReport query I (K.state out.old) (K.state out.new) }
+    ensures causes { IfErr result IsOfQuery }
+    ensures not_fine { IfErr result (λ cause. cause ≢ Cause.Fine) }
+    ensures silent { (I : Image) → (D.state device.old).content ≡ Some I → IfErr result (λ cause. IsRefusal cause → out.new ≡ out.old) }
+    ensures some { (I : Image) → (D.state device.old).content ≡ Some I → BeginsReport query I (K.state out.old) (K.state out.new) }
+    ensures reads { ReadsOnly (D.state device.old) (D.state device.new) }
+    ensures not_writable { IsWritable (D.state device.new).attached → ⊥ }
+    ensures named { (IsErrOf result Cause.NoMemory → ⊥) → IsAttachedOnce name.now How.ReadOnly (D.state device.old) (D.state device.new) }
+    ensures at_most { IsAttachedAtMostOnce name.now How.ReadOnly (D.state device.old) (D.state device.new) }
+    ensures fault { IsErrOf result Cause.DeviceFault → Rose (D.state device.old).faults (D.state device.new).faults }
+    ensures output { IsErrOf result Cause.OutputFault → FailsLast (K.state out.old) (K.state out.new) }
+    ensures quiet { (IsErrOf result Cause.OutputFault → ⊥) → (K.state out.new).faults ≡ (K.state out.old).faults }
+{
+    let geo = open_for_reading(alloc, device, name)?;
+    match ask(alloc, device, &geo, &query, out) {
+        Ok(()) => Ok(()),
+        Err(fault) => Err(cause_for(fault, query)),
+    }
+}
+
+// The cause of this fault.
+fn cause_for(fault: DebugFault, query: Query) -> Cause
+    ensures { result ≡ cause_of_query query fault }
+{
+    match fault {
+        DebugFault::NoMemory => Cause::NoMemory,
+        DebugFault::DeviceFault => Cause::DeviceFault,
+        DebugFault::OutputFault => Cause::OutputFault,
+        DebugFault::Absent => Cause::Absent {
+            path: path_in(query),
+        },
+        DebugFault::WrongKind => Cause::WrongKind {
+            path: path_in(query),
+        },
+        DebugFault::Bad { check, block } => Cause::Bad { check, block },
+    }
+}
+
+// The path of the query, taken out of it.
+fn path_in(query: Query) -> PathText
+    ensures { result ≡ path_of query }
+{
+    match query {
+        Query::Ls { path } => path,
+        Query::Stat { path } => path,
+        Query::Cat { path } => path,
+    }
+}
