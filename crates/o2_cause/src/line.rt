@@ -2,7 +2,7 @@
 ghost use Rattle.std.specs.Prelude.{◌≡◌};
 ghost use Rattle.o2_disk.specs.Device.{Rose};
 ghost use Rattle.o2_disk.specs.Output.{StopsAtFault};
-ghost use Rattle.o2_cause.specs.Causes.{cause_line, EndsBy};
+ghost use Rattle.o2_cause.specs.Causes.{cause_line, IsDone, EndsBy};
 ghost use Rattle.o2_cause.specs.Taken.{Takes, TakesSome};
 
 use crate::output::put_text;
@@ -14,6 +14,7 @@ use std::alloc::Global;
 /// changes no cause. NoMemory, with nothing put, where there is no memory for the line.
 pub fn put_line<K: Sink>(alloc: Global, tool: &str, cause: Cause, out: &mut K) -> Cause
     ensures ends { EndsBy cause result }
+    ensures still { IsDone cause → out.new ≡ out.old }
     ensures all { (Rose (K.state out.old).faults (K.state out.new).faults → ⊥) → Takes (K.state out.old) (K.state out.new) (cause_line tool.now result) }
     ensures some { TakesSome (K.state out.old) (K.state out.new) (cause_line tool.now result) }
     ensures stops { StopsAtFault (K.state out.old) (K.state out.new) }

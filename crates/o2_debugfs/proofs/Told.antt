@@ -6,11 +6,11 @@ use Rattle.o2_model.specs.Features.{unsupported_feature}
 use Rattle.o2_model.specs.Volume.{Volume, opened}
 use Rattle.o2_model.specs.declared.check.Check.{Check}
 use Rattle.o2_check.specs.Skeleton.{HasSkeleton, FailsFirst}
+use Rattle.o2_cause.specs.Causes.{IsDone}
 use Rattle.o2_debug.specs.Commands.{AnswersAt, AnswersSomeAt, IsAbsent, IsOfWrongKind, FailsOn}
 use Rattle.o2_debug.specs.declared.fault.DebugFault.{DebugFault}
 use Rattle.o2_debug.specs.declared.fault.DebugFault.TheVariants as debug
 use Rattle.o2_debug.specs.declared.query.Query.{Query}
-use Rattle.o2_cause.specs.declared.cause.Cause.TheVariants.{OutputFault}
 use Rattle.o2_debugfs.specs.Replies.{ComesFor, HasReport, TakesReport, TakesSomeOfReport, BeginsReport, cause_of_query}
 
 module _ (query : Query) (I : Image) (v : Volume) (is : opened I ≡ Some v) (supported : unsupported_feature I ≡ None) where
@@ -39,11 +39,11 @@ module _ (query : Query) (I : Image) (v : Volume) (is : opened I ≡ Some v) (su
   comes_fault debug.WrongKind a b cut absent kind bad = (refl, record { volume = v; is = is; supported = supported; holds = kind refl })
   comes_fault (debug.Bad check block) a b cut absent kind bad = record { volume = v; is = is; supported = supported; holds = bad check block refl }
 
--- only a fault of the output is told as one
-pub fault_of_output : (query : Query) (fault : DebugFault) → cause_of_query query fault ≡ OutputFault → fault ≡ debug.OutputFault
-fault_of_output query debug.OutputFault is = refl
-fault_of_output query debug.NoMemory is = absurd (let none : ⊥ = cc is in none)
-fault_of_output query debug.DeviceFault is = absurd (let none : ⊥ = cc is in none)
-fault_of_output query debug.Absent is = absurd (let none : ⊥ = cc is in none)
-fault_of_output query debug.WrongKind is = absurd (let none : ⊥ = cc is in none)
-fault_of_output query (debug.Bad check block) is = absurd (let none : ⊥ = cc is in none)
+-- only a fault of the output leaves a query done
+pub fault_of_output : (query : Query) (fault : DebugFault) → IsDone (cause_of_query query fault) → fault ≡ debug.OutputFault
+fault_of_output query debug.OutputFault done = refl
+fault_of_output query debug.NoMemory done = absurd (let none : ⊥ = cc done in none)
+fault_of_output query debug.DeviceFault done = absurd (let none : ⊥ = cc done in none)
+fault_of_output query debug.Absent done = absurd (let none : ⊥ = cc done in none)
+fault_of_output query debug.WrongKind done = absurd (let none : ⊥ = cc done in none)
+fault_of_output query (debug.Bad check block) done = absurd (let none : ⊥ = cc done in none)

@@ -5,6 +5,7 @@ ghost use Rattle.o2_model.specs.Image.{Image};
 ghost use Rattle.o2_model.specs.Features.{unsupported_feature};
 ghost use Rattle.o2_model.specs.Volume.{opened};
 ghost use Rattle.o2_extent.specs.Seen.{volume_seen};
+ghost use Rattle.o2_cause.specs.Causes.{IsDone};
 ghost use Rattle.o2_debugfs.specs.Replies.{RefusesVolume, IsOfOpening};
 
 use o2_cause::{Cause, attach};
@@ -23,6 +24,7 @@ pub fn open_for_reading<D: Disk>(alloc: Global, device: &mut D, name: &str) -> R
     ensures most { IfOk result (λ geo. geo.block_bits ≤ 12) }
     ensures refused { IfErr result (λ cause. (I : Image) → (D.state device.old).content ≡ Some I → RefusesVolume I cause) }
     ensures causes { IfErr result IsOfOpening }
+    ensures not_done { IfErr result (λ cause. IsDone cause → ⊥) }
     ensures named { (IsErrOf result Cause.NoMemory → ⊥) → IsAttachedOnce name.now How.ReadOnly (D.state device.old) (D.state device.new) }
     ensures at_most { IsAttachedAtMostOnce name.now How.ReadOnly (D.state device.old) (D.state device.new) }
     ensures fault { IsErrOf result Cause.DeviceFault → Rose (D.state device.old).faults (D.state device.new).faults }

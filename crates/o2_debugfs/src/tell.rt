@@ -5,7 +5,7 @@ ghost use Rattle.o2_disk.specs.Output.{FailsLast};
 ghost use Rattle.o2_model.specs.Image.{Image};
 ghost use Rattle.o2_dir.specs.PathTexts.{IsPath};
 ghost use Rattle.o2_debug.specs.Answers.{path_of};
-ghost use Rattle.o2_cause.specs.Causes.{IsRefusal};
+ghost use Rattle.o2_cause.specs.Causes.{IsDone, IsRefusal};
 ghost use Rattle.o2_debugfs.specs.QueryRun.{IsOfQuery};
 ghost use Rattle.o2_debugfs.specs.Replies.{ComesFor, TakesReport, TakesSomeOfReport, BeginsReport, cause_of_query};
 
@@ -27,7 +27,7 @@ pub fn tell<D: Disk, K: Sink>(
     requires path { IsPath (path_of query) }
     ensures report { OnOk result ((I : Image) → (D.state device.old).content ≡ Some I → TakesReport query I (K.state out.old) (K.state out.new)) }
     ensures told { IfErr result (λ cause. (I : Image) → (D.state device.old).content ≡ Some I → ComesFor query I cause) }
-    ensures cut { IsErrOf result Cause.OutputFault → (I : Image) → (D.state device.old).content ≡ Some I → TakesSomeOfReport query I (K.state out.old) (K.state out.new) }
+    ensures cut { IfErr result (λ cause. IsDone cause → (I : Image) → (D.state device.old).content ≡ Some I → TakesSomeOfReport query I (K.state out.old) (K.state out.new)) }
     ensures causes { IfErr result IsOfQuery }
     ensures not_fine { IfErr result (λ cause. cause ≢ Cause.Fine) }
     ensures silent { (I : Image) → (D.state device.old).content ≡ Some I → IfErr result (λ cause. IsRefusal cause → out.new ≡ out.old) }
@@ -37,8 +37,9 @@ pub fn tell<D: Disk, K: Sink>(
     ensures named { (IsErrOf result Cause.NoMemory → ⊥) → IsAttachedOnce name.now How.ReadOnly (D.state device.old) (D.state device.new) }
     ensures at_most { IsAttachedAtMostOnce name.now How.ReadOnly (D.state device.old) (D.state device.new) }
     ensures fault { IsErrOf result Cause.DeviceFault → Rose (D.state device.old).faults (D.state device.new).faults }
-    ensures output { IsErrOf result Cause.OutputFault → FailsLast (K.state out.old) (K.state out.new) }
-    ensures quiet { (IsErrOf result Cause.OutputFault → ⊥) → (K.state out.new).faults ≡ (K.state out.old).faults }
+    ensures output { IfErr result (λ cause. IsDone cause → FailsLast (K.state out.old) (K.state out.new)) }
+    ensures quiet { IfErr result (λ cause. (IsDone cause → ⊥) → (K.state out.new).faults ≡ (K.state out.old).faults) }
+    ensures calm { OnOk result ((K.state out.new).faults ≡ (K.state out.old).faults) }
 {
     let geo = open_for_reading(alloc, device, name)?;
     match ask(alloc, device, &geo, &query, out) {

@@ -1,8 +1,1 @@
-pub mod Answer
-pub mod AskedWords
-pub mod CauseLines
-pub mod CommandLine
-pub mod Commands
-pub mod QueryWords
-pub mod Replies
-pub mod Status
+pub mod Refused

@@ -1,24 +1,15 @@
-//! The program: from the words of a command line to the changed device.
+//! The program: from the words of a command line to the tool that they ask for.
 #![tactic(auto)]
 
-mod attach;
-mod cause;
-mod command;
-mod label;
-mod obey;
+mod done;
 mod program;
-mod query_word;
-mod report;
-mod superblock;
-mod tell;
 #[cfg(test)]
 mod tests;
 #[cfg(test)]
 mod tree_tests;
-mod words;
 
-pub use cause::{Cause, Done};
-pub use command::{Command, WordFault};
+pub use done::Done;
+pub use o2_cause::Cause;
 pub use o2_view::Which;
+pub use o2_words::{Command, WordFault, read_words};
 pub use program::run;
-pub use words::read_words;

@@ -1,21 +1,22 @@
 // The program's one call.
 ghost use Rattle.std.specs.Prelude.{◌≡◌, ◌≢◌, ◌⊎◌, ℕ, Some};
-ghost use Rattle.o2_disk.specs.Device.{ReadsOnly, Rose, IsAttachedOnce, IsAttachedAtMostOnce, IsWritable, IsSettled, LeavesOnly, Told};
+ghost use Rattle.o2_disk.specs.Device.{ReadsOnly, Rose, IsSettled, LeavesOnly};
 ghost use Rattle.o2_disk.specs.Output.{FailsLast, StopsAtFault};
 ghost use Rattle.o2_model.specs.Image.{Image};
-ghost use Rattle.o2_model.specs.Label.{relabelled};
-ghost use Rattle.o2_debug.specs.Taken.{Takes, TakesSome};
-ghost use Rattle.o2_tools.specs.Answer.{label_refusal, refusal_of, IsAnswer};
-ghost use Rattle.o2_tools.specs.CauseLines.{reply_text};
-ghost use Rattle.o2_tools.specs.CommandLine.{texts, IsTunefs, IsDebugfs, IsLine, IsLaterLine, RefusesWords, tool_of, label_of, device_of};
-ghost use Rattle.o2_tools.specs.Commands.{AsksFor, AsksQuery};
-ghost use Rattle.o2_tools.specs.Replies.{ComesFor, IsReply};
-ghost use Rattle.o2_tools.specs.Status.{status_of, IsRefusal, IsDone, IsOfTunefs, IsOfQuery};
+ghost use Rattle.o2_cause.specs.Causes.{cause_line, status_of, IsRefusal};
+ghost use Rattle.o2_cause.specs.Taken.{Takes, TakesSome};
+ghost use Rattle.o2_words.specs.CommandLine.{texts, IsTunefs, IsDebugfs, IsLine, IsLaterLine, tool_of, label_of, device_of};
+ghost use Rattle.o2_words.specs.Commands.{AsksFor, AsksQuery};
+ghost use Rattle.o2_tunefs.specs.LabelRun.{LabelRun};
+ghost use Rattle.o2_debugfs.specs.QueryRun.{QueryRun};
+ghost use Rattle.o2_tools.specs.Refused.{cause_of, RefusesBy};
 
-use crate::obey::obey;
-use crate::report::report;
-use crate::{Cause, Done};
-use o2_disk::{Disk, How, Sink};
+use crate::Done;
+use o2_cause::{Cause, put_line};
+use o2_debugfs::run_query;
+use o2_disk::{Disk, Sink};
+use o2_tunefs::run_label;
+use o2_words::{Command, WordFault, read_words};
 use std::alloc::Global;
 
 /// Does what the words of a command line ask for. They are those behind the program's name.
@@ -36,55 +37,27 @@ pub fn run<D: Disk, E: Disk, K: Sink>(
 
     // Words that are no command line are refused for what they are, and a command line is not. One of debugfs may ask
     // for what waits for a later version.
-    ensures words { (IsLine (texts words.now) → ⊥) → RefusesWords (texts words.now) result.cause }
+    ensures words { (IsLine (texts words.now) → ⊥) → RefusesBy (texts words.now) result.cause }
     ensures line { IsLine (texts words.now) → (place : ℕ) → result.cause ≢ Cause.Usage place }
     ensures later { IsLaterLine (texts words.now) → (result.cause ≡ Cause.Later) ⊎ (result.cause ≡ Cause.NoMemory) }
 
-    // A command line of tunefs is answered by the first refusal that stands, or is fine. Else the device failed, and has
-    // told so, or memory ran out.
-    ensures answer { IsTunefs (texts words.now) → (I : Image) → (D.state device.old).content ≡ Some I → IsAnswer (refusal_of (label_of (texts words.now)) I) result.cause }
-    ensures range { (which : _) (value : ℕ) → result.cause ≡ Cause.Range which value → IsTunefs (texts words.now) × (label_refusal (label_of (texts words.now)) ≡ Some result.cause) }
-    ensures fault { result.cause ≡ Cause.DeviceFault → Rose (D.state device.old).faults (D.state device.new).faults }
+    // What each tool promises: a command line of tunefs gives a label, and one of debugfs is answered.
+    ensures label { IsTunefs (texts words.now) → LabelRun (label_of (texts words.now)) (device_of (texts words.now)) (D.state device.old) (D.state device.new) (K.state out.old) (K.state out.new) result.cause }
+    ensures query { (query : _) → AsksFor query (texts words.now) → QueryRun query (device_of (texts words.now)) (D.state device.old) (D.state device.new) (K.state out.old) (K.state out.new) result.cause }
 
-    // Whatever the device tells, each tool ends by causes of its own.
-    ensures of_tunefs { IsTunefs (texts words.now) → IsOfTunefs result.cause }
-    ensures of_query { AsksQuery (texts words.now) → IsOfQuery result.cause }
-
-    // A query of debugfs is answered by what stands first, and Fine comes only with its text. A debugfs run writes nothing.
-    ensures told { (query : _) → AsksFor query (texts words.now) → (I : Image) → (D.state device.old).content ≡ Some I → ComesFor query I (K.state out.old) (K.state out.new) result.cause }
-    ensures reads { IsDebugfs (texts words.now) → ReadsOnly (D.state device.old) (D.state device.new) }
-    ensures not_writable { AsksQuery (texts words.now) → result.cause ≢ Cause.NoMemory → IsWritable (D.state device.new).attached → ⊥ }
-
-    // The device is attached once, under the name that the command line gives, and by a query for reading alone; where memory
-    // runs out maybe not at all. Other words leave it alone.
-    ensures named { IsTunefs (texts words.now) → result.cause ≢ Cause.NoMemory → IsAttachedOnce (device_of (texts words.now)) How.ReadWrite (D.state device.old) (D.state device.new) }
-    ensures at_most { IsTunefs (texts words.now) → IsAttachedAtMostOnce (device_of (texts words.now)) How.ReadWrite (D.state device.old) (D.state device.new) }
-    ensures named_to_read { AsksQuery (texts words.now) → result.cause ≢ Cause.NoMemory → IsAttachedOnce (device_of (texts words.now)) How.ReadOnly (D.state device.old) (D.state device.new) }
-    ensures at_most_to_read { AsksQuery (texts words.now) → IsAttachedAtMostOnce (device_of (texts words.now)) How.ReadOnly (D.state device.old) (D.state device.new) }
+    // Other words leave the device alone, and the sink takes the cause's line, and its first bytes where it fails.
     ensures alone { (IsTunefs (texts words.now) → ⊥) → (AsksQuery (texts words.now) → ⊥) → device.new ≡ device.old }
+    ensures output { (IsTunefs (texts words.now) → ⊥) → (AsksQuery (texts words.now) → ⊥) → (Rose (K.state out.old).faults (K.state out.new).faults → ⊥) → Takes (K.state out.old) (K.state out.new) (cause_line (tool_of (texts words.now)) result.cause) }
+    ensures front { (IsTunefs (texts words.now) → ⊥) → (AsksQuery (texts words.now) → ⊥) → TakesSome (K.state out.old) (K.state out.new) (cause_line (tool_of (texts words.now)) result.cause) }
 
-    // A label that was given stands, also where the output failed. A refusal writes nothing, nor does a label that is
-    // there already.
-    ensures done { IsTunefs (texts words.now) → IsDone result.cause → Told (λ I J. J ≡ relabelled (label_of (texts words.now)) I) (D.state device.old) (D.state device.new) }
+    // A refusal writes nothing, whatever the tool, and where nothing was pending when the run began a crash at any moment
+    // of it leaves the volume of before. A debugfs run writes nothing at all.
     ensures refused { IsRefusal result.cause → ReadsOnly (D.state device.old) (D.state device.new) }
-    ensures idle { (I : Image) → (D.state device.old).content ≡ Some I → relabelled (label_of (texts words.now)) I ≡ I → ReadsOnly (D.state device.old) (D.state device.new) }
-
-    // However the run ends, and whatever was pending when it began, a read gives the volume of before or the one with the
-    // label.
-    ensures either { Told (λ I J. (J ≡ I) ⊎ (J ≡ relabelled (label_of (texts words.now)) I)) (D.state device.old) (D.state device.new) }
-
-    // Where nothing was pending when the run began, a crash at any moment of it leaves the volume of before or the one with
-    // the label, and once the label is given no crash leaves anything but the latter.
-    ensures any_moment { (I : Image) → IsSettled (D.state device.old) I → LeavesOnly (D.state device.old) (D.state device.new) (λ X. (X ≡ I) ⊎ (X ≡ relabelled (label_of (texts words.now)) I)) }
     ensures kept { IsRefusal result.cause → (I : Image) → IsSettled (D.state device.old) I → LeavesOnly (D.state device.old) (D.state device.new) (λ X. X ≡ I) }
-    ensures settled { IsTunefs (texts words.now) → IsDone result.cause → (I : Image) → IsSettled (D.state device.old) I → IsSettled (D.state device.new) (relabelled (label_of (texts words.now)) I) }
+    ensures reads { IsDebugfs (texts words.now) → ReadsOnly (D.state device.old) (D.state device.new) }
 
-    // Where no query is asked the sink takes that tunefs is done, or the cause's line, and its first bytes where it fails.
-    ensures output { (AsksQuery (texts words.now) → ⊥) → (Rose (K.state out.old).faults (K.state out.new).faults → ⊥) → Takes (K.state out.old) (K.state out.new) (reply_text (tool_of (texts words.now)) result.cause) }
-    ensures front { (AsksQuery (texts words.now) → ⊥) → TakesSome (K.state out.old) (K.state out.new) (reply_text (tool_of (texts words.now)) result.cause) }
-
-    // A query has first bytes of its report, or none where it is refused, and then the cause's line.
-    ensures reply { (query : _) → AsksFor query (texts words.now) → (I : Image) → (D.state device.old).content ≡ Some I → IsReply query I (tool_of (texts words.now)) result.cause (K.state out.old) (K.state out.new) }
+    // A device fault comes with a fault that the device has told.
+    ensures fault { result.cause ≡ Cause.DeviceFault → Rose (D.state device.old).faults (D.state device.new).faults }
 
     // Nothing is put behind the sink's first fault, which stands in place of Fine alone.
     ensures stops { StopsAtFault (K.state out.old) (K.state out.new) }
@@ -93,9 +66,37 @@ pub fn run<D: Disk, E: Disk, K: Sink>(
 
     ensures other { other.new ≡ other.old }
 {
-    let cause = obey(alloc, words, device, out);
-    match report(alloc, words, &cause, out) {
-        Ok(()) => Done::by(cause),
-        Err(_) => Done::by(Cause::NoMemory),
+    let cause = match read_words(alloc, words) {
+        Err(fault) => put_line(alloc, first_word(words), cause_of_fault(fault), out),
+        Ok(Command::Label { label, device: place }) => {
+            let name = words[place as usize].as_str();
+            run_label(alloc, device, name, label.as_slice(), out)
+        }
+        Ok(Command::Debug { query, device: place }) => {
+            let name = words[place as usize].as_str();
+            run_query(alloc, device, name, query, out)
+        }
+    };
+    Done::by(cause)
+}
+
+// The first word, or nothing where there is none.
+fn first_word(words: &[String]) -> &str
+    ensures { result.now ≡ tool_of (texts words.now) }
+{
+    if words.is_empty() {
+        return "";
+    }
+    words[0].as_str()
+}
+
+// The cause by which words are refused.
+fn cause_of_fault(fault: WordFault) -> Cause
+    ensures { result ≡ cause_of fault }
+{
+    match fault {
+        WordFault::NoMemory => Cause::NoMemory,
+        WordFault::Usage { place } => Cause::Usage { place },
+        WordFault::Later => Cause::Later,
     }
 }

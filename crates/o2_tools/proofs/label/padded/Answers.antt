@@ -1,5 +1,0 @@
-use Rattle.o2_tools.proofs.Relabels.{padded_is}
-use Rattle.o2_tools.proofs.label.padded.Goals as goal
-
-pub returns : goal.returns
-returns c = padded_is c.put_first.new.field c.args.label.now c.put_first.ensures

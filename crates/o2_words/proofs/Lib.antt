@@ -1,0 +1,7 @@
+pub mod Lines
+pub mod OneQuery
+pub mod Options
+pub mod Places
+pub mod QueryWordLemmas
+pub mod Readings
+pub mod Refused

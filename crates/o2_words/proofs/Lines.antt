@@ -1,0 +1,106 @@
+-- The lines of the forms that are served.
+use Rattle.std.proofs.Common.{◌≡◌, ◌⊎◌, inl, inr, ⊎_elim, ℕ, ◌+◌, ◌<◌, List, [], ◌∷◌, take, drop, get_or, refl, sym, ◌∙◌, ap, subst, arith, codes, All, HoldsAt}
+use Rattle.std.proofs.lemmas.List.Elements.{All-nil}
+use Rattle.o2_words.specs.Kinds.{Fits}
+use Rattle.o2_words.specs.Parts.{MayBeLeft}
+use Rattle.o2_words.specs.Forms.{Words, Form, left_behind, IsReader, Leads, Matches, ReachesTo}
+use Rattle.o2_words.specs.CommandLine.{IsTunefs, IsDebugfs, IsLine, IsNotBuilt, RefusesWords, forms}
+use Rattle.o2_words.specs.declared.command.WordFault.TheVariants.{Usage}
+use Rattle.o2_words.specs.declared.form.TheConstants.{LABEL_FORM, DEBUG_FORM}
+use Rattle.o2_words.specs.declared.form.Part.TheVariants.{One}
+use Rattle.o2_words.specs.declared.kind.Kind.{Kind}
+use Rattle.o2_words.specs.declared.kind.Kind.TheVariants.{Fixed, Text, Device, Query}
+use Rattle.o2_words.specs.declared.name.Name.TheVariants.{Tunefs, Debugfs, Label, Ask}
+use Rattle.o2_words.proofs.Readings.{some_part, first_reads}
+
+-- ---- a part that has to stand
+-- a line of a form that begins with it: its word, and a line of what is behind
+pub record Parted (kind : Kind) (form : Form) (words : Words) : Type 0 where
+  pub word : List ℕ
+  pub more : Words
+  pub is : words ≡ word ∷ more
+  pub fits : Fits kind word
+  pub behind : Matches form more
+
+-- it reads the word itself
+pub reads_itself : (kind : Kind) (form next : Form) (word : List ℕ) (place : ℕ) → IsReader (One kind ∷ form) word place
+    → HoldsAt (λ part. next ≡ left_behind part (take place (One kind ∷ form)) (drop (place + 1) (One kind ∷ form))) (One kind ∷ form) place → Fits kind word × (next ≡ form)
+reads_itself kind form next word zero reader leaves = (reader.reads some_part, leaves some_part)
+reads_itself kind form next word (suc place) reader leaves = absurd ((reader.passed 0 some_part (omega arith) (omega arith)).may)
+
+pub parted : (kind : Kind) (form : Form) (words : Words) → Matches (One kind ∷ form) words → Parted kind form words
+parted kind form [] (rest, same, may) = absurd (let all : All MayBeLeft (One kind ∷ form) = subst (All MayBeLeft) same may in all 0 some_part (omega arith))
+parted kind form (word ∷ more) (rest, (next, follows, leads), may) =
+    let read = reads_itself kind form next word follows.place follows.reader follows.leaves in
+    record { word = word; more = more; is = refl; fits = read.0; behind = (rest, subst (λ (f : Form). Leads f more rest) read.1 leads, may) }
+
+pub joined : (kind : Kind) (form : Form) (word : List ℕ) (more : Words) → Fits kind word → Matches form more → Matches (One kind ∷ form) (word ∷ more)
+joined kind form word more fits (rest, leads, may) = (rest, (form, first_reads (One kind) form word fits, leads), may)
+
+-- the empty form
+pub ended : (words : Words) → Matches [] words → words ≡ []
+ended [] line = refl
+ended (word ∷ more) (rest, (next, follows, leads), may) = absurd (omega (arith, follows.reader.within))
+
+pub empty_line : Matches [] []
+empty_line = ([], refl, All-nil MayBeLeft)
+
+-- ---- the two forms
+label_line : (words : Words) → Matches LABEL_FORM words → IsTunefs words
+label_line words line =
+    let tool = parted (Fixed Tunefs) (One (Fixed Label) ∷ One Text ∷ One Device ∷ []) words line in
+    let option = parted (Fixed Label) (One Text ∷ One Device ∷ []) tool.more tool.behind in
+    let label = parted Text (One Device ∷ []) option.more option.behind in
+    let device = parted Device [] label.more label.behind in
+    (label.word, (device.word, record {
+      form = tool.is ∙ ap (λ (w : List ℕ). w ∷ tool.more) tool.fits ∙ ap (λ (ws : Words). codes "tunefs" ∷ ws)
+        (option.is ∙ ap (λ (w : List ℕ). w ∷ option.more) option.fits ∙ ap (λ (ws : Words). codes "-L" ∷ ws)
+        (label.is ∙ ap (λ (ws : Words). label.word ∷ ws) (device.is ∙ ap (λ (ws : Words). device.word ∷ ws) (ended device.more device.behind))));
+      names = device.fits;
+    }))
+
+line_label : (words : Words) → IsTunefs words → Matches LABEL_FORM words
+line_label words (label, (device, line)) =
+    subst (Matches LABEL_FORM) (sym line.form)
+    (joined (Fixed Tunefs) _ (codes "tunefs") _ refl (joined (Fixed Label) _ (codes "-L") _ refl (joined Text _ label _ tt (joined Device _ device _ line.names empty_line))))
+
+debug_line : (words : Words) → Matches DEBUG_FORM words → IsDebugfs words
+debug_line words line =
+    let tool = parted (Fixed Debugfs) (One (Fixed Ask) ∷ One Query ∷ One Device ∷ []) words line in
+    let option = parted (Fixed Ask) (One Query ∷ One Device ∷ []) tool.more tool.behind in
+    let asking = parted Query (One Device ∷ []) option.more option.behind in
+    let device = parted Device [] asking.more asking.behind in
+    (asking.word, (device.word, record {
+      form = tool.is ∙ ap (λ (w : List ℕ). w ∷ tool.more) tool.fits ∙ ap (λ (ws : Words). codes "debugfs" ∷ ws)
+        (option.is ∙ ap (λ (w : List ℕ). w ∷ option.more) option.fits ∙ ap (λ (ws : Words). codes "-R" ∷ ws)
+        (asking.is ∙ ap (λ (ws : Words). asking.word ∷ ws) (device.is ∙ ap (λ (ws : Words). device.word ∷ ws) (ended device.more device.behind))));
+      asks = asking.fits;
+      names = device.fits;
+    }))
+
+line_debug : (words : Words) → IsDebugfs words → Matches DEBUG_FORM words
+line_debug words (word, (device, line)) =
+    subst (Matches DEBUG_FORM) (sym line.form)
+    (joined (Fixed Debugfs) _ (codes "debugfs") _ refl (joined (Fixed Ask) _ (codes "-R") _ refl (joined Query _ word _ line.asks (joined Device _ device _ line.names empty_line))))
+
+-- ---- all the forms
+lines_at : (words : Words) (k : ℕ) (form : Form) → k < 2 → get_or forms k form ≡ form → Matches form words → IsTunefs words ⊎ IsDebugfs words
+lines_at words zero form below is line = inl (label_line words (subst (λ (f : Form). Matches f words) (sym is) line))
+lines_at words (suc zero) form below is line = inr (debug_line words (subst (λ (f : Form). Matches f words) (sym is) line))
+lines_at words (suc (suc k)) form below is line = absurd (omega (arith, below))
+
+pub line_of : (words : Words) → IsLine words → IsTunefs words ⊎ IsDebugfs words
+line_of words (k, form, below, is, line) = lines_at words k form below is line
+
+pub is_line : (words : Words) → IsTunefs words ⊎ IsDebugfs words → IsLine words
+is_line words (inl line) = (0, LABEL_FORM, omega arith, refl, line_label words line)
+is_line words (inr line) = (1, DEBUG_FORM, omega arith, refl, line_debug words line)
+
+-- words that are no line of either, and the place up to which they are in order
+pub usage_of : (words : Words) (place : ℕ) → (IsNotBuilt words → ⊥) → (IsTunefs words → ⊥) → (IsDebugfs words → ⊥) → ReachesTo forms words place → RefusesWords words (Usage place)
+usage_of words place built other others reaches = (built, record {
+  no_line = λ line. ⊎_elim other others (line_of words line);
+  within = reaches.within;
+  begins = reaches.begins;
+  leaves = reaches.leaves;
+})

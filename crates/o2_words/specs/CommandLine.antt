@@ -1,0 +1,91 @@
+-- The command lines that the program reads, and how it refuses other words.
+use Rattle.std.specs.Prelude.{◌≡◌, ◌⊎◌, ℕ, ◌+◌, ◌<◌, ◌≤◌, List, [], ◌∷◌, length, take, codes, slice_index_or}
+use Rattle.o2_words.specs.Forms.{Form, IsLineOf, BeginsLineOf}
+use Rattle.o2_words.specs.QueryWords.{IsForLater, IsQueryWord}
+use Rattle.o2_words.specs.declared.command.WordFault.{WordFault}
+use Rattle.o2_words.specs.declared.command.WordFault.TheVariants.{NoMemory, Usage, Later}
+use Rattle.o2_words.specs.declared.form.TheConstants.{LABEL_FORM, DEBUG_FORM}
+pub use Rattle.o2_words.specs.Forms.{Words, texts}
+pub use Rattle.o2_words.specs.Kinds.{IsDevice}
+
+-- tunefs -L LABEL DEVICE
+pub record IsLabelLine (label device : List ℕ) (words : Words) : Type 0 where
+  pub form : words ≡ codes "tunefs" ∷ codes "-L" ∷ label ∷ device ∷ []
+  pub names : IsDevice device
+
+-- debugfs -R WORD DEVICE
+pub record IsDebugLine (word device : List ℕ) (words : Words) : Type 0 where
+  pub form : words ≡ codes "debugfs" ∷ codes "-R" ∷ word ∷ device ∷ []
+  pub asks : IsQueryWord word
+  pub names : IsDevice device
+
+-- the words are a command line of tunefs
+abbrev pub IsTunefs : Words → Type 0
+IsTunefs words = (label : List ℕ) × ((device : List ℕ) × IsLabelLine label device words)
+
+-- or of debugfs
+abbrev pub IsDebugfs : Words → Type 0
+IsDebugfs words = (word : List ℕ) × ((device : List ℕ) × IsDebugLine word device words)
+
+-- the forms that are served
+abbrev pub forms : List Form
+forms = LABEL_FORM ∷ DEBUG_FORM ∷ []
+
+-- the words are a command line
+abbrev pub IsLine : Words → Type 0
+IsLine words = IsLineOf forms words
+
+-- more words behind them make one
+abbrev pub Begins : Words → Type 0
+Begins words = BeginsLineOf forms words
+
+-- The words are no command line, and leave the grammar at this place: those before it begin a command line, and with
+-- the word there they don't. Words that end too soon leave it behind their last.
+pub record LeavesAt (words : Words) (place : ℕ) : Type 0 where
+  pub no_line : IsLine words → ⊥
+  pub within : place ≤ length words
+  pub begins : Begins (take place words)
+  pub leaves : place < length words → Begins (take (place + 1) words) → ⊥
+
+-- the first word is this one
+abbrev pub IsFirst : List ℕ → Words → Type 0
+IsFirst tool words = (rest : Words) × (words ≡ tool ∷ rest)
+
+-- the first two are these
+abbrev pub AreFirst : List ℕ → List ℕ → Words → Type 0
+AreFirst tool option words = (rest : Words) × (words ≡ tool ∷ option ∷ rest)
+
+-- a tool or a form that is not built yet
+abbrev pub IsNotBuilt : Words → Type 0
+IsNotBuilt words =
+    IsFirst (codes "mkfs") words ⊎ IsFirst (codes "fsck") words ⊎ IsFirst (codes "sample") words
+    ⊎ AreFirst (codes "tunefs") (codes "-N") words ⊎ AreFirst (codes "tunefs") (codes "-J") words ⊎ AreFirst (codes "tunefs") (codes "-S") words
+
+-- a command line of debugfs that asks for what is not answered yet
+pub record IsLaterLine (words : Words) : Type 0 where
+  pub word : List ℕ
+  pub device : List ℕ
+  pub line : IsDebugLine word device words
+  pub later : IsForLater word
+
+-- words that are not served, and why
+abbrev pub RefusesWords : Words → WordFault → Type 0
+RefusesWords words Later = IsNotBuilt words ⊎ IsLaterLine words
+RefusesWords words (Usage place) = (IsNotBuilt words → ⊥) × LeavesAt words place
+RefusesWords words NoMemory = Unit {0}
+
+-- the first word, or nothing
+abbrev pub tool_of : Words → List ℕ
+tool_of words = slice_index_or words 0 []
+
+-- the label that a command line of tunefs gives
+abbrev pub label_of : Words → List ℕ
+label_of words = slice_index_or words 2 []
+
+-- the word that asks, in one of debugfs
+abbrev pub word_of : Words → List ℕ
+word_of words = slice_index_or words 2 []
+
+-- the device's name, in either
+abbrev pub device_of : Words → List ℕ
+device_of words = slice_index_or words 3 []

@@ -1,0 +1,45 @@
+// What a word of a command line may be.
+ghost use Rattle.std.specs.Prelude.{◌↔◌, IsTrue};
+ghost use Rattle.o2_words.specs.Kinds.{IsDevice, Fits};
+
+use crate::Name;
+use crate::query_word::{is_number, is_query_word};
+
+/// What a word may be.
+#[derive(Clone, Copy)]
+pub enum Kind {
+    /// This word.
+    Fixed(Name),
+    /// Any word.
+    Text,
+    /// The name of a device.
+    Device,
+    /// What `debugfs -R` is asked.
+    Query,
+    /// A number.
+    Number,
+}
+
+impl Kind {
+    /// Whether the word is one of this kind.
+    pub fn fits(self, word: &str) -> bool
+        ensures { IsTrue result ↔ Fits self word.now }
+    {
+        match self {
+            Kind::Fixed(name) => name.is(word),
+            Kind::Text => true,
+            Kind::Device => may_be_device(word),
+            Kind::Query => is_query_word(word),
+            Kind::Number => is_number(word),
+        }
+    }
+}
+
+fn may_be_device(word: &str) -> bool
+    ensures { IsTrue result ↔ IsDevice word.now }
+{
+    match word.as_bytes() {
+        [] | [b'-', ..] => false,
+        _ => true,
+    }
+}
