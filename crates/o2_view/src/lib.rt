@@ -12,8 +12,8 @@ mod which;
 
 pub use block::Block;
 pub use fault::{ReadFault, ViewFault};
-pub use items::{Blocks, Bytes, Items, Numbers, Pairs, Runs};
-pub use o2_model::{Check, Geo, Oddity};
+pub use items::{Blocks, Numbers, Pairs, Runs};
+pub use o2_model::{Bytes, Check, Geo, Items, Oddity};
 pub use run::Run;
 pub use slot_part::SlotPart;
 pub use superblock::{SuperSector, find_super, find_super_sector};
