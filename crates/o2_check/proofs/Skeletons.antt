@@ -2,7 +2,6 @@
 use Rattle.std.proofs.Common.{◌≡◌, ℕ, Bool, true, false, ◌&&◌, [], refl, sym, ◌∙◌, subst, inl, inr}
 use Rattle.std.proofs.lemmas.Bool.{and_left}
 use Rattle.o2_model.specs.Words.{IsLeast}
-use Rattle.o2_model.specs.Faults.{fails_unless}
 use Rattle.o2_model.specs.Orders.{is_none_of}
 use Rattle.o2_model.specs.Volume.{Volume, is_valid}
 use Rattle.o2_model.specs.Inodes.{is_directory}
@@ -11,6 +10,7 @@ use Rattle.o2_model.specs.Checks.Sysdir.{directory_faults, is_sound_directory}
 use Rattle.o2_model.specs.Checks.Root.{is_sound_root, root_faults}
 use Rattle.o2_model.specs.declared.check.Check.{Check}
 use Rattle.o2_model.specs.declared.check.Check.TheVariants as check
+use Rattle.o2_model.proofs.Faults.{fails_nowhere}
 use Rattle.o2_dir.proofs.Whole.{fails_there}
 use Rattle.o2_check.specs.Skeleton.{HasSkeleton, FailsFirst}
 use Rattle.o2_check.proofs.Tests.{true_and}
@@ -25,9 +25,6 @@ unfolding is_sound_directory
 entries_decide v d good = true_and _ _ good
 
 -- ---- checks at one block
-holds : (b : ℕ) (test : Bool) → test ≡ true → fails_unless b test ≡ []
-holds b test is = rw is refl
-
 root_is : (v : Volume) → is_sound_root v ≡ (is_valid v v.geo.root && is_directory v v.geo.root)
 unfolding is_sound_root
 root_is v = refl
@@ -35,9 +32,9 @@ root_is v = refl
 -- ---- all three
 pub all_hold : (v : Volume) → is_sound_super v ≡ true → is_sound_directory v v.geo.sysdir ≡ true → (is_valid v v.geo.root && is_directory v v.geo.root) ≡ true → HasSkeleton v
 all_hold v super sysdir root = record {
-  super = holds 2 (is_sound_super v) super;
-  sysdir = holds v.geo.sysdir (is_sound_directory v v.geo.sysdir) sysdir;
-  root = holds v.geo.root (is_sound_root v) (root_is v ∙ root);
+  super = fails_nowhere 2 (is_sound_super v) super;
+  sysdir = fails_nowhere v.geo.sysdir (is_sound_directory v v.geo.sysdir) sysdir;
+  root = fails_nowhere v.geo.root (is_sound_root v) (root_is v ∙ root);
 }
 
 pub root_fails : (v : Volume) (c : Check) (b : ℕ) → check.Root ≡ c → v.geo.root ≡ b → is_sound_super v ≡ true → is_sound_directory v v.geo.sysdir ≡ true
@@ -45,4 +42,4 @@ pub root_fails : (v : Volume) (c : Check) (b : ℕ) → check.Root ≡ c → v.g
 unfolding FailsFirst
 root_fails v c b c_is b_is super sysdir root =
     let least = subst (λ (n : ℕ). IsLeast n (root_faults v)) b_is (fails_there v.geo.root (is_sound_root v) (root_is v ∙ root)) in
-    inr (holds 2 (is_sound_super v) super, inr (holds v.geo.sysdir (is_sound_directory v v.geo.sysdir) sysdir, inl (sym c_is, least)))
+    inr (fails_nowhere 2 (is_sound_super v) super, inr (fails_nowhere v.geo.sysdir (is_sound_directory v v.geo.sysdir) sysdir, inl (sym c_is, least)))

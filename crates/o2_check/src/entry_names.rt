@@ -1,11 +1,10 @@
 // The names of a directory's entries.
-ghost use Rattle.std.specs.Prelude.{◌≡◌, ◌||◌, ◌&&◌, ℕ, List, [], not, map, filter, bytes_eq, IfOk, OnOk};
+ghost use Rattle.std.specs.Prelude.{◌≡◌, ◌||◌, ◌&&◌, ℕ, List, [], not, filter, bytes_eq, IfOk, OnOk};
 ghost use Rattle.o2_model.specs.Orders.{later_like, is_none_of};
 ghost use Rattle.o2_model.specs.Faults.{those_not};
 ghost use Rattle.o2_model.specs.Directories.{is_dot};
 ghost use Rattle.o2_model.specs.Checks.DirentName.{is_sound_name as is_name_of_entry};
 ghost use Rattle.o2_model.specs.Checks.DirentDup.{are_namesakes};
-ghost use Rattle.o2_dir.specs.Told.{told};
 ghost use Rattle.o2_check.specs.Names.{has_name};
 
 use o2_dir::{Entries, Entry, is_dot_entry};
@@ -23,7 +22,7 @@ fn is_sound_name(name: &[u8]) -> bool
 
 /// Whether the name of each entry is sound.
 fn are_sound_names(entries: &[Entry]) -> bool
-    ensures { result ≡ is_none_of (those_not (λ e. is_name_of_entry e.name) (map told entries.now)) }
+    ensures { result ≡ is_none_of (those_not (λ e. is_name_of_entry e.name) entries.now) }
 {
     for entry in entries {
         if !is_sound_name(entry.name.as_slice()) {
@@ -46,7 +45,7 @@ fn add_name(names: &mut BTreeSet<Vec<u8>>, name: Vec<u8>) -> Result<bool, NoMemo
 
 /// Whether no two of the entries but the dots have one name.
 fn have_different_names(alloc: Global, entries: Vec<Entry>) -> Result<bool, NoMemory>
-    ensures { IfOk result (λ differ. differ ≡ is_none_of (later_like are_namesakes (filter (λ e. not (is_dot e)) (map told entries.items)))) }
+    ensures { IfOk result (λ differ. differ ≡ is_none_of (later_like are_namesakes (filter (λ e. not (is_dot e)) entries.items))) }
 {
     let mut names = BTreeSet::new(alloc);
     for entry in entries {
@@ -60,8 +59,8 @@ fn have_different_names(alloc: Global, entries: Vec<Entry>) -> Result<bool, NoMe
 
 /// Whether the names of a directory's live entries are sound, and none but the dots comes again.
 pub fn have_sound_names(alloc: Global, entries: Entries) -> Result<bool, NoMemory>
-    ensures { IfOk result (λ sound. sound ≡ (is_none_of (those_not (λ e. is_name_of_entry e.name) (map told entries))
-        && is_none_of (later_like are_namesakes (filter (λ e. not (is_dot e)) (map told entries))))) }
+    ensures { IfOk result (λ sound. sound ≡ (is_none_of (those_not (λ e. is_name_of_entry e.name) entries)
+        && is_none_of (later_like are_namesakes (filter (λ e. not (is_dot e)) entries)))) }
 {
     if !are_sound_names(entries.as_slice()) {
         return Ok(false);

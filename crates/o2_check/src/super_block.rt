@@ -10,7 +10,7 @@ ghost use Rattle.o2_check.specs.Numbers.{AreWithin};
 
 use crate::super_numbers::are_sound_numbers;
 use o2_disk::Disk;
-use o2_extent::block_bytes;
+use o2_extent::look;
 use o2_model::Geo;
 use o2_ondisk::{InodeFlags, read_dinode};
 use o2_view::{View, ViewFault};
@@ -29,8 +29,7 @@ fn is_super_dinode<D: Disk, const N: usize>(
     ensures reads { OnlyReads view.old view.new }
     ensures fault { IsErrOf result ViewFault.DeviceFault → Rose (view_state view.old).faults (view_state view.new).faults }
 {
-    let _bytes = block_bytes(geo);
-    let block = view.block(SUPER_BLOCK)?;
+    let block = look(view, geo, SUPER_BLOCK)?;
     let dinode = read_dinode(block.as_slice());
     Ok(dinode.blkno == SUPER_BLOCK && dinode.flags.has(InodeFlags::VALID))
 }

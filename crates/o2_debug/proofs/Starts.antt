@@ -1,15 +1,11 @@
 -- A sound skeleton has where paths begin.
-use Rattle.std.proofs.Common.{◌≡◌, ℕ, Bool, true, false, ◌&&◌, [], refl}
-use Rattle.o2_model.specs.Faults.{fails_unless}
+use Rattle.std.proofs.Common.{◌≡◌, ℕ, Bool, true, false, ◌&&◌, refl}
 use Rattle.o2_model.specs.Volume.{Volume, is_valid}
 use Rattle.o2_model.specs.Checks.Sysdir.{is_sound_directory}
 use Rattle.o2_model.specs.Checks.Root.{is_sound_root}
+use Rattle.o2_model.proofs.Faults.{holds_unless}
 use Rattle.o2_check.specs.Skeleton.{HasSkeleton}
 use Rattle.o2_debug.specs.Commands.{HasStarts}
-
-holds : (b : ℕ) (test : Bool) → fails_unless b test ≡ [] → test ≡ true
-holds b true none = refl
-holds b false none = absurd (let some : ⊥ = cc none in some)
 
 first_of : (x y : Bool) → (x && y) ≡ true → x ≡ true
 first_of true y both = refl
@@ -25,6 +21,6 @@ directory_is_valid v d sound = first_of (is_valid v d) _ (first_of _ _ sound)
 
 pub starts : (v : Volume) → HasSkeleton v → HasStarts v
 starts v h = record {
-  root = root_is_valid v (holds v.geo.root (is_sound_root v) h.root);
-  sysdir = directory_is_valid v v.geo.sysdir (holds v.geo.sysdir (is_sound_directory v v.geo.sysdir) h.sysdir);
+  root = root_is_valid v (holds_unless v.geo.root (is_sound_root v) h.root);
+  sysdir = directory_is_valid v v.geo.sysdir (holds_unless v.geo.sysdir (is_sound_directory v v.geo.sysdir) h.sysdir);
 }

@@ -1,7 +1,6 @@
 // The lines of each query.
 ghost use Rattle.std.specs.Prelude.{◌≡◌, IfOk, map, string_bytes, ◌++◌, codes};
 ghost use Rattle.o2_ondisk.specs.declared.dinode.Dinode.{Dinode as Numbers};
-ghost use Rattle.o2_dir.specs.Told.{told};
 ghost use Rattle.o2_debug.specs.Lines.{entry_line, kind_text, kind_line, mode_line, number_line, pair_line, dinode_lines as lines_of_dinode, extent_line};
 
 use o2_dir::Entry;
@@ -14,7 +13,7 @@ use std::alloc::{AllocError, Global};
 pub type Lines = Items<Bytes>;
 
 fn entry_text(alloc: Global, entry: &Entry) -> Result<Bytes, AllocError>
-    ensures { IfOk result (λ line. line ≡ entry_line (told entry.now)) }
+    ensures { IfOk result (λ line. line ≡ entry_line entry.now) }
 {
     let inode = entry.inode;
     let file_type = entry.file_type;
@@ -26,7 +25,7 @@ fn entry_text(alloc: Global, entry: &Entry) -> Result<Bytes, AllocError>
 
 /// The lines of `ls`: one for each entry.
 pub fn entry_lines(alloc: Global, entries: &[Entry]) -> Result<Lines, AllocError>
-    ensures { IfOk result (λ lines. lines ≡ map (λ e. entry_line (told e)) entries.now) }
+    ensures { IfOk result (λ lines. lines ≡ map entry_line entries.now) }
 {
     let mut lines = Vec::new(alloc);
     for entry in entries {

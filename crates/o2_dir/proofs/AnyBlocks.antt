@@ -9,10 +9,8 @@ use Rattle.o2_ondisk.specs.declared.dinode.Dinode.{Dinode}
 use Rattle.o2_model.specs.Volume.{Volume, block_size, per_cluster, dinode}
 use Rattle.o2_model.specs.Inodes.{is_inline, leaf_records}
 use Rattle.o2_model.specs.Directories.{NamedEntry, DirBlock, dir_blocks, entries_in, inline_block, live_from}
-use Rattle.o2_extent.specs.Readings.{leaf_of}
-use Rattle.o2_extent.specs.declared.leaf.Leaf.{Leaf}
+use Rattle.o2_model.specs.declared.leaf.Leaf.{Leaf}
 use Rattle.o2_dir.specs.Blocks.{Keeps, blocks_in_dinode, block_at_place, places_of}
-use Rattle.o2_dir.specs.Told.{told}
 use Rattle.o2_dir.specs.declared.reading.Reading.{Reading}
 use Rattle.o2_dir.proofs.Kept.{empty_unsound, keeps_bad}
 use Rattle.o2_dir.proofs.Whole.{mapped_all}
@@ -53,7 +51,7 @@ pub inline_unread : (v : Volume) (d size : ℕ) (bytes : List ℕ) (old new : Re
 inline_unread v d size bytes old new holds long tells room kept one same =
     let none : (inline_block v d).found ≡ None = none_found size (length bytes) (block_size v) (v.at d) bytes long holds room tells in
     keeps_bad old new [] (inline_block v d) (empty_unsound (inline_block v d) none) one
-    (ap (map told) same ∙ (sym (append-nil (map told old.entries.items)) ∙ ap (λ (o : Option (List NamedEntry)). map told old.entries.items ++ live_from d 0 (unwrap_or o [])) (sym none)))
+    (same ∙ (sym (append-nil old.entries.items) ∙ ap (λ (o : Option (List NamedEntry)). old.entries.items ++ live_from d 0 (unwrap_or o [])) (sym none)))
     kept
 
 pub inline_blocks : (v : Volume) (d : ℕ) (reading : Reading) → is_inline v d ≡ true → Keeps reading (inline_block v d ∷ []) → Keeps reading (dir_blocks v d)
@@ -61,16 +59,16 @@ unfolding dir_blocks
 inline_blocks v d reading inside kept = rw inside kept
 
 -- ---- mapped blocks
-mapped_are : (v : Volume) (d size : ℕ) (leaves : List Leaf) → is_inline v d ≡ false → size ≡ (dinode v d).size → leaves ≡ map leaf_of (leaf_records v d)
+mapped_are : (v : Volume) (d size : ℕ) (leaves : List Leaf) → is_inline v d ≡ false → size ≡ (dinode v d).size → leaves ≡ leaf_records v d
     → map (block_at_place v) (places_of (per_cluster v) (size / block_size v) leaves) ≡ dir_blocks v d
 unfolding dir_blocks
 mapped_are v d size leaves outside tells are =
     rw outside
     (ap (λ (ls : List Leaf). map (block_at_place v) (places_of (per_cluster v) (size / block_size v) ls)) are
-    ∙ (ap (λ n. map (block_at_place v) (places_of (per_cluster v) (n / block_size v) (map leaf_of (leaf_records v d)))) tells
+    ∙ (ap (λ n. map (block_at_place v) (places_of (per_cluster v) (n / block_size v) (leaf_records v d))) tells
     ∙ sym (mapped_all v ((dinode v d).size / block_size v) (leaf_records v d))))
 
-pub mapped_blocks : (v : Volume) (d size : ℕ) (leaves : List Leaf) (reading : Reading) → is_inline v d ≡ false → size ≡ (dinode v d).size → leaves ≡ map leaf_of (leaf_records v d)
+pub mapped_blocks : (v : Volume) (d size : ℕ) (leaves : List Leaf) (reading : Reading) → is_inline v d ≡ false → size ≡ (dinode v d).size → leaves ≡ leaf_records v d
     → Keeps reading (map (block_at_place v) (places_of (per_cluster v) (size / block_size v) leaves)) → Keeps reading (dir_blocks v d)
 mapped_blocks v d size leaves reading outside tells are kept = subst (λ (bs : List DirBlock). Keeps reading bs) (mapped_are v d size leaves outside tells are) kept
 

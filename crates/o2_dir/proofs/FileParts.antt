@@ -18,7 +18,7 @@ use Rattle.o2_model.specs.declared.check.Check.TheVariants.{InodeSize}
 use Rattle.o2_model.specs.Checks.Extent.{extent_faults}
 use Rattle.o2_model.specs.Checks.InodeSize.{has_sound_size, inode_size_faults}
 use Rattle.o2_extent.proofs.FileBytes.{range_split}
-use Rattle.o2_extent.specs.declared.leaf.Leaf.{Leaf}
+use Rattle.o2_model.specs.declared.leaf.Leaf.{Leaf}
 use Rattle.o2_dir.specs.Fails.{IsRead}
 use Rattle.o2_dir.specs.FileData.{DataFailsFirst}
 use Rattle.o2_dir.proofs.Whole.{size_bad}

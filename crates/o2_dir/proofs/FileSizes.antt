@@ -6,7 +6,6 @@ use Rattle.o2_ondisk.specs.Number.{number_at}
 use Rattle.o2_ondisk.specs.Kinds.{kind_of_mode}
 use Rattle.o2_ondisk.specs.Dinodes.{dinode_of}
 use Rattle.o2_ondisk.specs.declared.dinode.Dinode.{Dinode}
-use Rattle.o2_ondisk.specs.declared.extent_rec.ExtentRec.{ExtentRec}
 use Rattle.o2_ondisk.specs.declared.kind.Kind.{Kind}
 use Rattle.o2_ondisk.specs.declared.kind.Kind.TheVariants.{File, Directory, Character, Block, Fifo, Socket, Link}
 use Rattle.o2_model.specs.Words.{among}
@@ -16,15 +15,8 @@ use Rattle.o2_model.specs.Inodes.{kind, is_inline, is_file, is_link, is_file_kin
 use Rattle.o2_model.specs.Directories.{own_inodes}
 use Rattle.o2_model.specs.Contents.{maps_cluster}
 use Rattle.o2_model.specs.Checks.InodeSize.{is_link_size, is_file_size, is_size_of_kind, has_sound_size}
-use Rattle.o2_extent.specs.Maps.{has_cluster}
-use Rattle.o2_extent.specs.Readings.{leaf_of}
-use Rattle.o2_extent.specs.declared.leaf.Leaf.{Leaf}
+use Rattle.o2_model.specs.declared.leaf.Leaf.{Leaf}
 use Rattle.o2_dir.specs.Fails.{IsRead}
-
--- the records of the reader say the same as the definition's of a cluster
-any_of_records : (k : ℕ) (rs : List ExtentRec) → list_any (has_cluster k) (map leaf_of rs) ≡ list_any (maps_cluster k) rs
-any_of_records k [] = refl
-any_of_records k (r ∷ rs) = ap (λ (b : Bool). maps_cluster k r || b) (any_of_records k rs)
 
 -- ---- by the kind
 of_link : (v : Volume) (b : ℕ) (k : Option Kind) → is_link_kind k ≡ true → is_size_of_kind v b k ≡ is_link_size v b
@@ -56,15 +48,15 @@ inline_size v b size bytes holds long tells inside = rw inside
     ∙ (ap (λ n. nat_le (dinode v b).size (number_at 0xc0 2 bytes) && nat_le (number_at 0xc0 2 bytes) (n - 200)) long
     ∙ ap (λ bs. nat_le (dinode v b).size (number_at 0xc0 2 bs) && nat_le (number_at 0xc0 2 bs) (block_size v - 200)) holds))
 
-link_size_is : (n block : ℕ) (d e : Dinode) (leaves : List Leaf) (rs : List ExtentRec) → d ≡ e → n ≡ block → leaves ≡ map leaf_of rs
-    → (nat_lt 0 d.size && cond (has_fast_text d) (nat_lt d.size (n - 192)) (list_any (has_cluster 0) leaves)) ≡ (nat_lt 0 e.size && cond (has_fast_text e) (nat_lt e.size (block - 192)) (list_any (maps_cluster 0) rs))
-link_size_is n block d e leaves rs same long are =
-    ap (λ (x : Dinode). nat_lt 0 x.size && cond (has_fast_text x) (nat_lt x.size (n - 192)) (list_any (has_cluster 0) leaves)) same
-    ∙ (ap (λ k. nat_lt 0 e.size && cond (has_fast_text e) (nat_lt e.size (k - 192)) (list_any (has_cluster 0) leaves)) long
-    ∙ ap (λ (a : Bool). nat_lt 0 e.size && cond (has_fast_text e) (nat_lt e.size (block - 192)) a) (ap (list_any (has_cluster 0)) are ∙ any_of_records 0 rs))
+link_size_is : (n block : ℕ) (d e : Dinode) (leaves records : List Leaf) → d ≡ e → n ≡ block → leaves ≡ records
+    → (nat_lt 0 d.size && cond (has_fast_text d) (nat_lt d.size (n - 192)) (list_any (maps_cluster 0) leaves)) ≡ (nat_lt 0 e.size && cond (has_fast_text e) (nat_lt e.size (block - 192)) (list_any (maps_cluster 0) records))
+link_size_is n block d e leaves records same long are =
+    ap (λ (x : Dinode). nat_lt 0 x.size && cond (has_fast_text x) (nat_lt x.size (n - 192)) (list_any (maps_cluster 0) leaves)) same
+    ∙ (ap (λ k. nat_lt 0 e.size && cond (has_fast_text e) (nat_lt e.size (k - 192)) (list_any (maps_cluster 0) leaves)) long
+    ∙ ap (λ (ls : List Leaf). nat_lt 0 e.size && cond (has_fast_text e) (nat_lt e.size (block - 192)) (list_any (maps_cluster 0) ls)) are)
 
 pub link_size : (v : Volume) (b : ℕ) (d : Dinode) (bytes : List ℕ) (leaves : List Leaf) → IsRead v b bytes leaves → length bytes ≡ block_size v → d ≡ dinode_of bytes → is_inline v b ≡ false → is_link_kind (kind v b) ≡ true
-    → (nat_lt 0 d.size && cond (has_fast_text d) (nat_lt d.size (length bytes - 192)) (list_any (has_cluster 0) leaves)) ≡ has_sound_size v b
+    → (nat_lt 0 d.size && cond (has_fast_text d) (nat_lt d.size (length bytes - 192)) (list_any (maps_cluster 0) leaves)) ≡ has_sound_size v b
 unfolding has_sound_size
 link_size v b d bytes leaves read long tells outside link = rw outside
     (link_size_is (length bytes) (block_size v) d (dinode v b) leaves (leaf_records v b) (tells ∙ ap dinode_of read.holds) long read.are

@@ -15,11 +15,10 @@ use Rattle.o2_model.specs.Directories.{NamedEntry, DirBlock, dir_blocks, directo
 use Rattle.o2_model.specs.Checks.InodeSize.{has_sound_size, is_inline_size, is_size_of_kind}
 use Rattle.o2_dir.specs.Blocks.{Keeps, blocks_in_dinode}
 use Rattle.o2_dir.specs.declared.reading.Reading.{Reading}
-use Rattle.o2_dir.specs.declared.entry.Entry.{Entry}
+use Rattle.o2_model.specs.declared.entry.Entry.{Entry}
 use Rattle.o2_dir.specs.declared.fault.DirFault.{DirFault}
 use Rattle.o2_dir.specs.declared.fault.DirFault.TheVariants as Faults
 use Rattle.o2_dir.specs.Fails.{IsInline, FailsNone, FailsFirst}
-use Rattle.o2_dir.specs.Told.{told}
 use Rattle.o2_dir.proofs.Whole.{entries_kept, faults_kept, fails_blocks, size_sound}
 
 -- ---- sizes and bytes that are told are those of the dinode
@@ -77,11 +76,11 @@ is_read reading d size bytes part is kept = subst (λ (bs : List ℕ). Keeps rea
 
 -- ---- the answers
 pub entries_told : (r : Result (List Entry) DirFault) (reading : Reading) (d size : ℕ) (bytes : List ℕ) → 200 + size ≤ length bytes → Keeps reading (blocks_in_dinode d size bytes)
-    → IfOk r (λ es. (bs : List DirBlock) → Keeps reading bs → map told es ≡ flat_map entries_of_block bs)
-    → IfOk r (λ es. (v : Volume) → length bytes ≡ 2 ^ v.geo.block_bits → IsInline v d size bytes → map told es ≡ directory_entries v d)
+    → IfOk r (λ es. (bs : List DirBlock) → Keeps reading bs → es ≡ flat_map entries_of_block bs)
+    → IfOk r (λ es. (v : Volume) → length bytes ≡ 2 ^ v.geo.block_bits → IsInline v d size bytes → es ≡ directory_entries v d)
 entries_told r reading d size bytes room kept = IfOk-weaker r
-    (λ es. (bs : List DirBlock) → Keeps reading bs → map told es ≡ flat_map entries_of_block bs)
-    (λ es. (v : Volume) → length bytes ≡ 2 ^ v.geo.block_bits → IsInline v d size bytes → map told es ≡ directory_entries v d)
+    (λ es. (bs : List DirBlock) → Keeps reading bs → es ≡ flat_map entries_of_block bs)
+    (λ es. (v : Volume) → length bytes ≡ 2 ^ v.geo.block_bits → IsInline v d size bytes → es ≡ directory_entries v d)
     (λ es sound v long h. sound (blocks_in_dinode d size bytes) kept ∙ entries_kept v d (blocks_in_dinode d size bytes) (blocks_are v d size bytes long h room))
 
 pub sound_told : (r : Result (List Entry) DirFault) (reading : Reading) (d size : ℕ) (bytes : List ℕ) → 200 + size ≤ length bytes → Keeps reading (blocks_in_dinode d size bytes)

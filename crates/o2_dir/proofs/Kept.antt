@@ -1,14 +1,13 @@
 -- What is kept of a directory's blocks, one after the other.
 use Rattle.std.proofs.Common.{◌≡◌, ℕ, true, false, ◌||◌, not, ◌==◌, List, [], ◌∷◌, ◌++◌, map, filter, flat_map, take, length, refl, sym, ◌∙◌, ap, Option, Some, None, option_map, is_some, unwrap_or}
-use Rattle.std.proofs.lemmas.List.{append-nil, map_push, take-map, length-map}
+use Rattle.std.proofs.lemmas.List.{append-nil, map_push}
 use Rattle.std.proofs.lemmas.List.Elements.{filter-append}
 use Rattle.std.proofs.lemmas.Grind.{flat_map-append}
 use Rattle.o2_model.specs.Words.{push}
 use Rattle.o2_model.specs.Faults.{fails_at}
-use Rattle.o2_model.specs.Directories.{NamedEntry, DirBlock, Entry as LiveEntry, behind, live_from, entries_of_block}
+use Rattle.o2_model.specs.Directories.{NamedEntry, DirBlock, behind, live_from, entries_of_block}
 use Rattle.o2_model.specs.Checks.DirBlock.{begin_with_dots, is_sound_dir_block}
-use Rattle.o2_dir.specs.Told.{told}
-use Rattle.o2_dir.specs.declared.entry.Entry.{Entry}
+use Rattle.o2_model.specs.declared.entry.Entry.{Entry}
 use Rattle.o2_dir.specs.Blocks.{Keeps}
 use Rattle.o2_dir.specs.declared.reading.Reading.{Reading}
 
@@ -22,9 +21,6 @@ unfolding is_sound_dir_block
 filled_sound b es some = rw some refl
 
 -- ---- the entries that fill it
-pub cut_back : (f : Entry → LiveEntry) (old now new : List Entry) → take (length (map f old)) (map f now) ≡ map f old → new ≡ take (length old) now → map f new ≡ map f old
-cut_back f old now new kept is = ap (map f) is ∙ (sym (take-map f (length old) now) ∙ (ap (λ n. take n (map f now)) (sym (length-map old f)) ∙ kept))
-
 pub found_filled : {A : Type 0} (new old : List A) (f : List NamedEntry → List A) (o : Option (List NamedEntry)) → Some new ≡ behind old (option_map f o) → is_some o ≡ true
 found_filled new old f None h = cc
 found_filled new old f (Some xs) h = refl
@@ -33,7 +29,7 @@ pub entries_filled : {A : Type 0} (new old : List A) (f : List NamedEntry → Li
 entries_filled new old f None h = cc
 entries_filled new old f (Some xs) h = cc
 
-pub entries_none : (block : ℕ) (xs : List LiveEntry) (o : Option (List NamedEntry)) → o ≡ None → xs ≡ xs ++ live_from block 0 (unwrap_or o [])
+pub entries_none : (block : ℕ) (xs : List Entry) (o : Option (List NamedEntry)) → o ≡ None → xs ≡ xs ++ live_from block 0 (unwrap_or o [])
 entries_none block xs o none = rw none (sym (append-nil xs))
 
 pub some_found : {A : Type 0} (o : Option A) → is_some o ≡ true → (x : A) × (o ≡ Some x)
@@ -51,22 +47,22 @@ fails_bad bs b bad = ap (map (λ x. x.block)) (filter-append (λ x. not (is_soun
 fails_good : (bs : List DirBlock) (b : DirBlock) → is_sound_dir_block b ≡ true → fails_at (λ x. x.block) is_sound_dir_block (push bs b) ≡ fails_at (λ x. x.block) is_sound_dir_block bs
 fails_good bs b good = ap (map (λ x. x.block)) (filter-append (λ x. not (is_sound_dir_block x)) bs (b ∷ [])) ∙ rw good (ap (map (λ x. x.block)) (append-nil (filter (λ x. not (is_sound_dir_block x)) bs)))
 
-entries_more : (bs : List DirBlock) (b : DirBlock) (old new : List LiveEntry) → new ≡ old ++ live_from b.block 0 (unwrap_or b.found []) → old ≡ flat_map entries_of_block bs → new ≡ flat_map entries_of_block (push bs b)
+entries_more : (bs : List DirBlock) (b : DirBlock) (old new : List Entry) → new ≡ old ++ live_from b.block 0 (unwrap_or b.found []) → old ≡ flat_map entries_of_block bs → new ≡ flat_map entries_of_block (push bs b)
 entries_more bs b old new is before =
     is
     ∙ (ap (λ xs. xs ++ entries_of_block b) before
     ∙ sym (flat_map-append entries_of_block bs (b ∷ []) ∙ ap (λ xs. flat_map entries_of_block bs ++ xs) (append-nil (entries_of_block b))))
 
 pub keeps_bad : (old new : Reading) (bs : List DirBlock) (b : DirBlock) → is_sound_dir_block b ≡ false → new.faults.items ≡ push old.faults.items b.block
-    → map told new.entries.items ≡ map told old.entries.items ++ live_from b.block 0 (unwrap_or b.found []) → Keeps old bs → Keeps new (push bs b)
+    → new.entries.items ≡ old.entries.items ++ live_from b.block 0 (unwrap_or b.found []) → Keeps old bs → Keeps new (push bs b)
 keeps_bad old new bs b bad one is h = record {
   faults = one ∙ (ap (λ xs. push xs b.block) h.faults ∙ sym (fails_bad bs b bad));
-  entries = entries_more bs b (map told old.entries.items) (map told new.entries.items) is h.entries;
+  entries = entries_more bs b old.entries.items new.entries.items is h.entries;
 }
 
 pub keeps_good : (old new : Reading) (bs : List DirBlock) (b : DirBlock) → is_sound_dir_block b ≡ true → new.faults.items ≡ old.faults.items
-    → map told new.entries.items ≡ map told old.entries.items ++ live_from b.block 0 (unwrap_or b.found []) → Keeps old bs → Keeps new (push bs b)
+    → new.entries.items ≡ old.entries.items ++ live_from b.block 0 (unwrap_or b.found []) → Keeps old bs → Keeps new (push bs b)
 keeps_good old new bs b good same is h = record {
   faults = same ∙ (h.faults ∙ sym (fails_good bs b good));
-  entries = entries_more bs b (map told old.entries.items) (map told new.entries.items) is h.entries;
+  entries = entries_more bs b old.entries.items new.entries.items is h.entries;
 }

@@ -6,9 +6,10 @@ use Rattle.std.proofs.lemmas.List.{append_assoc, append-nil, map_push, take_more
 use Rattle.std.proofs.lemmas.List.Elements.{filter-append, All-push}
 use Rattle.std.proofs.lemmas.Grind.{flat_map-append}
 use Rattle.o2_model.specs.Words.{push}
-use Rattle.o2_extent.specs.declared.leaf.Leaf.{Leaf}
+use Rattle.o2_model.specs.Directories.{is_written}
+use Rattle.o2_model.specs.declared.leaf.Leaf.{Leaf}
 use Rattle.o2_dir.specs.declared.places.Place.{Place}
-use Rattle.o2_dir.specs.Blocks.{is_written_leaf, place_in, places_in, first_places, places_of}
+use Rattle.o2_dir.specs.Blocks.{place_in, places_in, first_places, places_of}
 
 last : (a n j : ℕ) → a + n ≡ j → range_with_len a (suc n) ≡ range_with_len a n ++ j ∷ []
 last a zero j e = let same : a ≡ j = omega arith in ap (λ k. k ∷ []) same
@@ -42,7 +43,7 @@ first_inside pc limit leaf k blocks now new low is h = elim (cases_Bool (nat_lt 
 ]
 
 places_both : (pc limit : ℕ) (xs ys : List Leaf) → places_of pc limit (xs ++ ys) ≡ places_of pc limit xs ++ places_of pc limit ys
-places_both pc limit xs ys = ap (flat_map (places_in pc limit)) (filter-append is_written_leaf xs ys) ∙ flat_map-append (places_in pc limit) (filter is_written_leaf xs) (filter is_written_leaf ys)
+places_both pc limit xs ys = ap (flat_map (places_in pc limit)) (filter-append is_written xs ys) ∙ flat_map-append (places_in pc limit) (filter is_written xs) (filter is_written ys)
 
 pub places_more : (pc limit : ℕ) (leaves : List Leaf) (i : ℕ) (d : Leaf) (now new : List Place) → i < length leaves → now ≡ places_of pc limit (take i leaves)
     → new ≡ now ++ places_of pc limit (get_or leaves i d ∷ []) → new ≡ places_of pc limit (take (i + 1) leaves)

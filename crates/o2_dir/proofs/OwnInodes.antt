@@ -4,21 +4,20 @@ use Rattle.std.proofs.lemmas.Bool.{cases_Bool, or_left, or_right, eq-eqb}
 use Rattle.std.proofs.lemmas.Bool.Decides.{nat_tests}
 use Rattle.o2_model.specs.Words.{among}
 use Rattle.o2_model.specs.Volume.{Volume}
-use Rattle.o2_model.specs.Directories.{Entry as LiveEntry, is_dot, dir_blocks, directory_entries, entries_of_block, own_inodes}
+use Rattle.o2_model.specs.Directories.{is_dot, dir_blocks, directory_entries, entries_of_block, own_inodes}
 use Rattle.o2_dir.specs.Blocks.{Keeps}
-use Rattle.o2_dir.specs.Told.{told}
-use Rattle.o2_dir.specs.declared.entry.Entry.{Entry}
+use Rattle.o2_model.specs.declared.entry.Entry.{Entry}
 use Rattle.o2_dir.specs.declared.reading.Reading.{Reading}
 
 -- whether one of these entries that is no dot names the inode
-abbrev pub names : List LiveEntry → ℕ → Bool
+abbrev pub names : List Entry → ℕ → Bool
 names es n = among (map (λ e. e.inode) (filter (λ e. not (is_dot e)) es)) n
 
 -- the entry at this place is one that does
-pub named_at : (es : List Entry) (i : ℕ) (d : Entry) (n : ℕ) → i < length es → is_dot (told (get_or es i d)) ≡ false → n ≡ (get_or es i d).inode → names (map told es) n ≡ true
+pub named_at : (es : List Entry) (i : ℕ) (d : Entry) (n : ℕ) → i < length es → is_dot (get_or es i d) ≡ false → n ≡ (get_or es i d).inode → names es n ≡ true
 named_at [] i d n low other is = absurd (omega arith)
 named_at (e ∷ es) zero d n low other is = rw other (or_left _ _ (eq-eqb n e.inode is))
-named_at (e ∷ es) (suc i) d n low other is = elim (cases_Bool (is_dot (told e))) [
+named_at (e ∷ es) (suc i) d n low other is = elim (cases_Bool (is_dot e)) [
   | inl dot ↦ rw dot (named_at es i d n (omega arith) other is)
   | inr other_too ↦ rw other_too (or_right (n == e.inode) _ (named_at es i d n (omega arith) other is))
 ]
@@ -35,7 +34,7 @@ or_none true b h = cc
 or_none false b h = refl
 
 -- so the entries that were read say it of any other inode
-pub others_are_named : (v : Volume) (n : ℕ) (reading : Reading) → (n ≡ v.geo.sysdir → ⊥) → Keeps reading (dir_blocks v v.geo.sysdir) → names (map told reading.entries.items) n ≡ among (own_inodes v) n
+pub others_are_named : (v : Volume) (n : ℕ) (reading : Reading) → (n ≡ v.geo.sysdir → ⊥) → Keeps reading (dir_blocks v v.geo.sysdir) → names reading.entries.items n ≡ among (own_inodes v) n
 unfolding own_inodes directory_entries
 others_are_named v n reading differs kept =
     let other : (n == v.geo.sysdir) ≡ false = differ n v.geo.sysdir differs in

@@ -9,7 +9,7 @@ use Rattle.o2_model.specs.declared.check.Check.{Check}
 use Rattle.o2_model.specs.declared.geo.Geo.{Geo}
 use Rattle.o2_model.specs.Volume.{Volume}
 use Rattle.o2_model.specs.Inodes.{is_directory}
-use Rattle.o2_model.specs.Directories.{Entry}
+use Rattle.o2_model.specs.declared.entry.Entry.{Entry}
 use Rattle.o2_dir.specs.PathTexts.{is_of_name, is_name}
 use Rattle.o2_dir.specs.Paths.{AreNames, Begins, StepsTo, Leads, OnTheWay, Lacks, IsNoDirectory, FailsAt}
 

@@ -4,9 +4,9 @@ use Rattle.std.proofs.lemmas.Bool.{cases_Bool}
 use Rattle.std.proofs.lemmas.List.{length-drop, drop-drop, drop_all, append_assoc, append-nil, length-take, take-append-le}
 use Rattle.o2_ondisk.specs.DirEntries.{dir_entry_of}
 use Rattle.o2_model.specs.Words.{push}
-use Rattle.o2_model.specs.Directories.{NamedEntry, Entry, entry_at_front, is_live, has_entry, before, behind, entries_in, live_from}
-use Rattle.o2_model.proofs.Entries.{entries-nil, entries-one, entries-bad}
-use Rattle.o2_dir.specs.Told.{standing}
+use Rattle.o2_model.specs.declared.entry.Entry.{Entry}
+use Rattle.o2_model.specs.Directories.{NamedEntry, entry_at_front, is_live, standing, has_entry, before, behind, entries_in, live_from}
+use Rattle.o2_model.proofs.Entries.{entries-nil, entries-one, bad_in}
 
 behind-push : {A : Type 0} (front : List A) (x : A) (o : Option (List A)) → behind (push front x) o ≡ behind front (before x o)
 behind-push front x None = refl
@@ -38,10 +38,6 @@ read_more block at front new bytes good is =
     ap (λ xs. behind xs (option_map (live_from block (at + e.fields.rec_len)) (entries_in (drop (at + e.fields.rec_len) bytes)))) is
     ∙ (live_one block at e (entries_in (drop (at + e.fields.rec_len) bytes)) front
     ∙ ap (λ o. behind front (option_map (live_from block at) o)) (ap (λ d. before e (entries_in d)) (sym (drop-drop e.fields.rec_len at bytes)) ∙ sym (entries-one (drop at bytes) good)))
-
-bad_in : (bytes : List ℕ) → 0 < length bytes → has_entry bytes ≡ false → entries_in bytes ≡ None
-bad_in [] some bad = absurd (omega arith)
-bad_in (b ∷ bytes) some bad = entries-bad b bytes bad
 
 none_mapped : {A B : Type 0} (f : List A → List B) (front : List B) (o : Option (List A)) → None ≡ behind front (option_map f o) → o ≡ None
 none_mapped f front None h = refl

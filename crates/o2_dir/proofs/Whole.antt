@@ -4,7 +4,6 @@ use Rattle.std.specs.List.{range_with_len}
 use Rattle.std.proofs.lemmas.Bool.{cases_Bool, or_left, eq-eqb}
 use Rattle.std.proofs.lemmas.List.{length-map, map-append}
 use Rattle.std.proofs.lemmas.List.Elements.{All-push}
-use Rattle.o2_ondisk.specs.declared.extent_rec.ExtentRec.{ExtentRec}
 use Rattle.o2_ondisk.specs.declared.kind.Kind.{Kind}
 use Rattle.o2_ondisk.specs.declared.kind.Kind.TheVariants.{File, Directory, Character, Block, Fifo, Socket, Link}
 use Rattle.o2_model.specs.Volume.{Volume, block_size, per_cluster, dinode}
@@ -12,12 +11,10 @@ use Rattle.o2_model.specs.Words.{IsLeast}
 use Rattle.o2_model.specs.Faults.{fails_at, fails_unless}
 use Rattle.o2_model.specs.Checks.Extent.{extent_faults}
 use Rattle.o2_model.specs.Checks.DirBlock.{is_sound_dir_block, dir_block_faults}
-use Rattle.o2_model.specs.Extents.{leaf_clusters}
 use Rattle.o2_model.specs.Inodes.{is_directory, is_directory_kind, kind, leaf_records}
 use Rattle.o2_model.specs.Directories.{DirBlock, dir_block, dir_blocks, mapped, is_written, entries_of_block, directory_entries}
 use Rattle.o2_model.specs.Checks.InodeSize.{has_sound_size, is_directory_size, is_size_of_kind, inode_size_faults}
-use Rattle.o2_extent.specs.Readings.{leaf_of}
-use Rattle.o2_extent.specs.declared.leaf.Leaf.{Leaf}
+use Rattle.o2_model.specs.declared.leaf.Leaf.{Leaf}
 use Rattle.o2_dir.specs.declared.places.Place.{Place}
 use Rattle.o2_dir.specs.Blocks.{place_in, places_in, places_of, block_at_place, Keeps}
 use Rattle.o2_dir.specs.Fails.{IsMapped, FailsFirst}
@@ -26,25 +23,25 @@ use Rattle.o2_model.specs.declared.check.Check.{Check}
 use Rattle.o2_model.specs.declared.check.Check.TheVariants.{InodeSize, DirBlock as DirBlockFails}
 
 -- ---- the blocks that they map
-mapped_one : (v : Volume) (r : ExtentRec) (ks : List ℕ) → map (dir_block v (r.cpos * per_cluster v) r.blkno) ks ≡ map (block_at_place v) (map (place_in (per_cluster v) (leaf_of r)) ks)
-mapped_one v r [] = refl
-mapped_one v r (k ∷ ks) = ap (λ bs. dir_block v (r.cpos * per_cluster v) r.blkno k ∷ bs) (mapped_one v r ks)
+mapped_one : (v : Volume) (leaf : Leaf) (ks : List ℕ) → map (dir_block v (leaf.cpos * per_cluster v) leaf.block) ks ≡ map (block_at_place v) (map (place_in (per_cluster v) leaf) ks)
+mapped_one v leaf [] = refl
+mapped_one v leaf (k ∷ ks) = ap (λ bs. dir_block v (leaf.cpos * per_cluster v) leaf.block k ∷ bs) (mapped_one v leaf ks)
 
-pub mapped_all : (v : Volume) (limit : ℕ) (rs : List ExtentRec) → flat_map (mapped v limit) (filter is_written rs) ≡ map (block_at_place v) (places_of (per_cluster v) limit (map leaf_of rs))
+pub mapped_all : (v : Volume) (limit : ℕ) (leaves : List Leaf) → flat_map (mapped v limit) (filter is_written leaves) ≡ map (block_at_place v) (places_of (per_cluster v) limit leaves)
 mapped_all v limit [] = refl
-mapped_all v limit (r ∷ rs) = elim (cases_Bool (is_written r)) [
-  | inr unwritten ↦ rw unwritten (mapped_all v limit rs)
+mapped_all v limit (leaf ∷ leaves) = elim (cases_Bool (is_written leaf)) [
+  | inr unwritten ↦ rw unwritten (mapped_all v limit leaves)
   | inl written ↦ rw written
-      (ap (λ bs. bs ++ flat_map (mapped v limit) (filter is_written rs)) (mapped_one v r (filter (λ k. nat_lt (r.cpos * per_cluster v + k) limit) (range_with_len 0 (leaf_clusters r * per_cluster v))))
-      ∙ (ap (λ bs. map (block_at_place v) (places_in (per_cluster v) limit (leaf_of r)) ++ bs) (mapped_all v limit rs)
-      ∙ sym (map-append (block_at_place v) (places_in (per_cluster v) limit (leaf_of r)) (places_of (per_cluster v) limit (map leaf_of rs)))))
+      (ap (λ bs. bs ++ flat_map (mapped v limit) (filter is_written leaves)) (mapped_one v leaf (filter (λ k. nat_lt (leaf.cpos * per_cluster v + k) limit) (range_with_len 0 (leaf.clusters * per_cluster v))))
+      ∙ (ap (λ bs. map (block_at_place v) (places_in (per_cluster v) limit leaf) ++ bs) (mapped_all v limit leaves)
+      ∙ sym (map-append (block_at_place v) (places_in (per_cluster v) limit leaf) (places_of (per_cluster v) limit leaves))))
 ]
 
 pub blocks_are : (v : Volume) (d size : ℕ) (leaves : List Leaf) → IsMapped v d size leaves → dir_blocks v d ≡ map (block_at_place v) (places_of (per_cluster v) (size / block_size v) leaves)
 unfolding dir_blocks
 blocks_are v d size leaves h =
     rw h.outside (mapped_all v ((dinode v d).size / block_size v) (leaf_records v d))
-    ∙ (ap (λ n. map (block_at_place v) (places_of (per_cluster v) (n / block_size v) (map leaf_of (leaf_records v d)))) (sym h.tells)
+    ∙ (ap (λ n. map (block_at_place v) (places_of (per_cluster v) (n / block_size v) (leaf_records v d))) (sym h.tells)
     ∙ ap (λ (ls : List Leaf). map (block_at_place v) (places_of (per_cluster v) (size / block_size v) ls)) (sym h.are))
 
 -- ---- the size

@@ -1,20 +1,14 @@
 -- The blocks of a directory by the leaf records of its extents.
-use Rattle.std.specs.Prelude.{◌≡◌, ℕ, ◌+◌, ◌*◌, ◌≤◌, nat_lt, Bool, ◌&&◌, not, List, [], ◌∷◌, map, filter, flat_map, bytes_eq, take, drop}
+use Rattle.std.specs.Prelude.{◌≡◌, ℕ, ◌+◌, ◌*◌, ◌≤◌, nat_lt, Bool, ◌&&◌, List, [], ◌∷◌, map, filter, flat_map, bytes_eq, take, drop}
 use Rattle.std.specs.List.{range_with_len}
-use Rattle.o2_ondisk.specs.Bits.{has_bits, unwritten_extent_flag}
 use Rattle.o2_ondisk.specs.Dinodes.{inline_data_place}
 use Rattle.o2_model.specs.Volume.{Volume}
 use Rattle.o2_model.specs.Faults.{fails_at}
-use Rattle.o2_model.specs.Directories.{DirBlock, entries_in, entries_of_block, entry_at_front, has_entry, is_live}
+use Rattle.o2_model.specs.Directories.{DirBlock, is_written, entries_in, entries_of_block, entry_at_front, has_entry, is_live}
 use Rattle.o2_model.specs.Checks.DirBlock.{is_sound_dir_block}
-use Rattle.o2_extent.specs.declared.leaf.Leaf.{Leaf}
-use Rattle.o2_dir.specs.Told.{told}
+use Rattle.o2_model.specs.declared.leaf.Leaf.{Leaf}
 use Rattle.o2_dir.specs.declared.places.Place.{Place}
 use Rattle.o2_dir.specs.declared.reading.Reading.{Reading}
-
--- the clusters of the record are not marked as unwritten
-abbrev pub is_written_leaf : Leaf → Bool
-is_written_leaf leaf = not (has_bits leaf.flags unwritten_extent_flag)
 
 -- the k-th block of the record's clusters, and which of the directory's blocks it is
 abbrev pub place_in : ℕ → Leaf → ℕ → Place
@@ -30,7 +24,7 @@ places_in per_cluster limit leaf = first_places per_cluster limit leaf (leaf.clu
 
 -- those of all written records
 abbrev pub places_of : ℕ → ℕ → List Leaf → List Place
-places_of per_cluster limit leaves = flat_map (places_in per_cluster limit) (filter is_written_leaf leaves)
+places_of per_cluster limit leaves = flat_map (places_in per_cluster limit) (filter is_written leaves)
 
 -- the record's clusters lie within so many blocks
 abbrev pub EndsIn : ℕ → ℕ → Leaf → Type 0
@@ -51,4 +45,4 @@ begins_with name bytes = has_entry bytes && (is_live (entry_at_front bytes) && b
 -- What was read of these blocks: those that are not sound, and the entries of all that their entries fill.
 pub record Keeps (reading : Reading) (blocks : List DirBlock) : Type 0 where
   pub faults : reading.faults.items ≡ fails_at (λ b. b.block) is_sound_dir_block blocks
-  pub entries : map told reading.entries.items ≡ flat_map entries_of_block blocks
+  pub entries : reading.entries.items ≡ flat_map entries_of_block blocks

@@ -1,5 +1,5 @@
 -- What is wrong with a directory, and what a reader of its blocks is given.
-use Rattle.std.specs.Prelude.{◌≡◌, ℕ, true, false, List, [], ◌∷◌, map}
+use Rattle.std.specs.Prelude.{◌≡◌, ℕ, true, false, List, [], ◌∷◌}
 use Rattle.o2_model.specs.declared.check.Check.{Check}
 use Rattle.o2_model.specs.declared.check.Check.TheVariants as check
 use Rattle.o2_model.specs.Volume.{Volume, dinode}
@@ -8,8 +8,7 @@ use Rattle.o2_model.specs.Checks.Extent.{extent_faults}
 use Rattle.o2_model.specs.Checks.InodeSize.{inode_size_faults}
 use Rattle.o2_model.specs.Checks.DirBlock.{dir_block_faults}
 use Rattle.o2_model.specs.FirstFault.{FailsFirst as FailsFirstOf}
-use Rattle.o2_extent.specs.Readings.{leaf_of}
-use Rattle.o2_extent.specs.declared.leaf.Leaf.{Leaf}
+use Rattle.o2_model.specs.declared.leaf.Leaf.{Leaf}
 
 -- EXTENT, INODE_SIZE and DIR_BLOCK hold for the directory
 pub record FailsNone (v : Volume) (d : ℕ) : Type 0 where
@@ -25,7 +24,7 @@ FailsFirst v d = FailsFirstOf ((check.Extent, extent_faults v d) ∷ (check.Inod
 pub record IsRead (v : Volume) (d : ℕ) (bytes : List ℕ) (leaves : List Leaf) : Type 0 where
   pub holds : bytes ≡ v.at d
   pub sound : extent_faults v d ≡ []
-  pub are : leaves ≡ map leaf_of (leaf_records v d)
+  pub are : leaves ≡ leaf_records v d
 
 -- a directory whose blocks the leaf records map
 pub record IsMapped (v : Volume) (d size : ℕ) (leaves : List Leaf) : Type 0 where
@@ -33,7 +32,7 @@ pub record IsMapped (v : Volume) (d size : ℕ) (leaves : List Leaf) : Type 0 wh
   pub directory : is_directory v d ≡ true
   pub sound : extent_faults v d ≡ []
   pub tells : size ≡ (dinode v d).size
-  pub are : leaves ≡ map leaf_of (leaf_records v d)
+  pub are : leaves ≡ leaf_records v d
 
 -- a directory whose entries stand in its dinode, which has these bytes
 pub record IsInline (v : Volume) (d size : ℕ) (bytes : List ℕ) : Type 0 where

@@ -6,7 +6,8 @@ use Rattle.o2_model.specs.declared.check.Check.TheVariants as check
 use Rattle.o2_model.specs.declared.geo.Geo.{Geo}
 use Rattle.o2_model.specs.Volume.{Volume, is_valid}
 use Rattle.o2_model.specs.Inodes.{is_directory}
-use Rattle.o2_model.specs.Directories.{Entry, first_named}
+use Rattle.o2_model.specs.declared.entry.Entry.{Entry}
+use Rattle.o2_model.specs.Directories.{first_named}
 use Rattle.o2_dir.specs.Fails.{FailsNone, FailsFirst}
 use Rattle.o2_dir.specs.PathTexts.{is_name}
 

@@ -12,7 +12,7 @@ ghost use Rattle.o2_dir.specs.Blocks.{Keeps, block_at_place};
 use crate::places::Place;
 use crate::reading::{Reading, add_block, start};
 use o2_disk::Disk;
-use o2_extent::block_bytes;
+use o2_extent::look;
 use o2_model::Geo;
 use o2_view::{View, ViewFault};
 use std::alloc::Global;
@@ -32,8 +32,7 @@ fn read_place<D: Disk, const N: usize>(
     ensures reads { OnlyReads view.old view.new }
     ensures fault { IsErrOf result ViewFault.DeviceFault → Rose (view_state view.old).faults (view_state view.new).faults }
 {
-    let _bytes = block_bytes(geo);
-    let block = view.block(p.block)?;
+    let block = look(view, geo, p.block)?;
     add_block(alloc, block.as_slice(), p.place, p.block, reading)?;
     Ok(())
 }

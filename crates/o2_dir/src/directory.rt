@@ -1,5 +1,5 @@
 // The entries of a directory.
-ghost use Rattle.std.specs.Prelude.{◌≡◌, ◌<◌, ℕ, true, map, Some, IfOk, IsErrOf};
+ghost use Rattle.std.specs.Prelude.{◌≡◌, ◌<◌, ℕ, true, Some, IfOk, IsErrOf};
 ghost use Rattle.std.specs.Result.{IfErr};
 ghost use Rattle.o2_disk.specs.Image.{Image};
 ghost use Rattle.o2_disk.specs.Device.{Rose};
@@ -10,7 +10,6 @@ ghost use Rattle.o2_model.specs.Directories.{directory_entries};
 ghost use Rattle.o2_extent.specs.Seen.{LiesIn, volume_seen};
 ghost use Rattle.o2_extent.specs.Reads.{OnlyReads};
 ghost use Rattle.o2_dir.specs.Fails.{FailsNone, FailsFirst};
-ghost use Rattle.o2_dir.specs.Told.{told};
 
 use crate::inline_directory::inlined;
 use crate::mapped_directory::mapped;
@@ -34,7 +33,7 @@ pub fn entries<D: Disk, const N: usize>(
     requires geo { LiesIn geo.now view.old }
     requires inode { inode < view_blocks view.old }
     requires directory { (I : Image) → (view_state view.old).content ≡ Some I → is_directory (volume_seen geo.now I) inode ≡ true }
-    ensures entries { IfOk result (λ entries. (I : Image) → (view_state view.old).content ≡ Some I → map told entries ≡ directory_entries (volume_seen geo.now I) inode) }
+    ensures entries { IfOk result (λ entries. (I : Image) → (view_state view.old).content ≡ Some I → entries ≡ directory_entries (volume_seen geo.now I) inode) }
     ensures sound { IfOk result (λ _. (I : Image) → (view_state view.old).content ≡ Some I → FailsNone (volume_seen geo.now I) inode) }
     ensures bad { IfErr result (λ fault. (check : Check) (b : ℕ) → fault ≡ DirFault.Bad check b → (I : Image) → (view_state view.old).content ≡ Some I
         → FailsFirst (volume_seen geo.now I) inode check b) }

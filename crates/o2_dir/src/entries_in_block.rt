@@ -1,9 +1,8 @@
 // The entries that fill the bytes of a block.
-ghost use Rattle.std.specs.Prelude.{◌≡◌, ◌+◌, ◌≤◌, ◌<◌, [], ◌++◌, length, map, take, IfOk, Some, None, option_map, unwrap_or, is_some, true, false, if◌then◌else◌};
+ghost use Rattle.std.specs.Prelude.{◌≡◌, ◌+◌, ◌≤◌, ◌<◌, [], ◌++◌, length, take, IfOk, Some, None, option_map, unwrap_or, is_some, true, false, if◌then◌else◌};
 ghost use Rattle.o2_ondisk.specs.DirEntries.{dir_entry_of};
 ghost use Rattle.o2_model.specs.Words.{push};
-ghost use Rattle.o2_model.specs.Directories.{entry_at_front, is_live, has_entry as begins_with_entry, entries_in, behind, live_from};
-ghost use Rattle.o2_dir.specs.Told.{told, standing};
+ghost use Rattle.o2_model.specs.Directories.{entry_at_front, is_live, standing, has_entry as begins_with_entry, entries_in, behind, live_from};
 
 use crate::Entry;
 use o2_disk::NoMemory;
@@ -44,7 +43,7 @@ fn name_at_front(alloc: Global, bytes: &[u8]) -> Result<Vec<u8>, AllocError>
 /// The entry at the front of these bytes, which stand in the block from byte `at` on.
 fn entry_of_front(alloc: Global, bytes: &[u8], block: u64, at: u32) -> Result<Entry, NoMemory>
     requires { 12 ≤ length bytes.now }
-    ensures { IfOk result (λ e. told e ≡ standing block at (entry_at_front bytes.now)) }
+    ensures { IfOk result (λ e. e ≡ standing block at (entry_at_front bytes.now)) }
 {
     let fields = read_dir_entry(bytes);
     match name_at_front(alloc, bytes) {
@@ -68,8 +67,8 @@ fn add_live(
     entries: &mut Vec<Entry>,
 ) -> Result<(), NoMemory>
     requires { 12 ≤ length bytes.now }
-    ensures { IfOk result (λ _. map told entries.new.items
-        ≡ (if is_live (entry_at_front bytes.now) then push (map told entries.old.items) (standing block at (entry_at_front bytes.now)) else map told entries.old.items)) }
+    ensures { IfOk result (λ _. entries.new.items
+        ≡ (if is_live (entry_at_front bytes.now) then push entries.old.items (standing block at (entry_at_front bytes.now)) else entries.old.items)) }
 {
     let inode = read_dir_entry(bytes).inode;
     if inode == 0 {
@@ -91,9 +90,9 @@ fn add_while_filled(
     entries: &mut Vec<Entry>,
 ) -> Result<bool, NoMemory>
     requires { length bytes.now ≤ 4096 }
-    ensures kept { IfOk result (λ _. take (length (map told entries.old.items)) (map told entries.new.items) ≡ map told entries.old.items) }
+    ensures kept { IfOk result (λ _. take (length entries.old.items) entries.new.items ≡ entries.old.items) }
     ensures filled { IfOk result (λ filled. filled ≡ true
-        → Some (map told entries.new.items) ≡ behind (map told entries.old.items) (option_map (live_from block 0) (entries_in bytes.now))) }
+        → Some entries.new.items ≡ behind entries.old.items (option_map (live_from block 0) (entries_in bytes.now))) }
     ensures bad { IfOk result (λ filled. filled ≡ false → entries_in bytes.now ≡ None) }
 {
     let mut at = 0;
@@ -117,7 +116,7 @@ pub fn add_entries(
     entries: &mut Vec<Entry>,
 ) -> Result<bool, NoMemory>
     requires { length bytes.now ≤ 4096 }
-    ensures entries { IfOk result (λ _. map told entries.new.items ≡ map told entries.old.items ++ live_from block 0 (unwrap_or (entries_in bytes.now) [])) }
+    ensures entries { IfOk result (λ _. entries.new.items ≡ entries.old.items ++ live_from block 0 (unwrap_or (entries_in bytes.now) [])) }
     ensures filled { IfOk result (λ filled. filled ≡ is_some (entries_in bytes.now)) }
 {
     let before = entries.len();

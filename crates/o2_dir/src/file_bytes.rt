@@ -1,15 +1,14 @@
 // The bytes of a file or a link.
-ghost use Rattle.std.specs.Prelude.{◌≡◌, ◌-◌, ◌^◌, ◌≤◌, ◌<◌, ℕ, List, length, map, min, take, drop, IfOk, IsErrOf, Some};
+ghost use Rattle.std.specs.Prelude.{◌≡◌, ◌-◌, ◌^◌, ◌≤◌, ◌<◌, ℕ, length, map, min, take, drop, IfOk, IsErrOf, Some};
 ghost use Rattle.std.specs.List.{range_with_len};
 ghost use Rattle.std.specs.Result.{IfErr};
 ghost use Rattle.o2_disk.specs.Image.{Image};
 ghost use Rattle.o2_disk.specs.Device.{Rose};
-ghost use Rattle.o2_ondisk.specs.declared.extent_rec.ExtentRec.{ExtentRec as Record};
 ghost use Rattle.o2_view.specs.Views.{view_state, view_blocks};
 ghost use Rattle.o2_model.specs.Contents.{byte_of, bytes_of};
 ghost use Rattle.o2_extent.specs.Seen.{LiesIn, volume_seen};
 ghost use Rattle.o2_extent.specs.Reads.{OnlyReads};
-ghost use Rattle.o2_extent.specs.Readings.{Within, leaf_of};
+ghost use Rattle.o2_extent.specs.Readings.{Within};
 ghost use Rattle.o2_dir.specs.Fails.{IsRead};
 ghost use Rattle.o2_dir.specs.FileData.{HasBytes, IsSoundData, DataFailsFirst};
 
@@ -62,8 +61,8 @@ fn read_mapped<D: Disk, const N: usize>(
 ) -> Result<Vec<u8>, ViewFault>
     requires geo { LiesIn geo.now view.old }
     requires within { Within geo.now leaves.now }
-    ensures bytes { IfOk result (λ out. (I : Image) → (view_state view.old).content ≡ Some I → (rs : List Record) → leaves.now ≡ map leaf_of rs
-        → out.items ≡ take len (drop at (map (byte_of (volume_seen geo.now I) rs) (range_with_len 0 size)))) }
+    ensures bytes { IfOk result (λ out. (I : Image) → (view_state view.old).content ≡ Some I
+        → out.items ≡ take len (drop at (map (byte_of (volume_seen geo.now I) leaves.now) (range_with_len 0 size)))) }
     ensures reads { OnlyReads view.old view.new }
     ensures fault { IsErrOf result ViewFault.DeviceFault → Rose (view_state view.old).faults (view_state view.new).faults }
 {

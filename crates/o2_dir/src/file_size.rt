@@ -9,8 +9,8 @@ ghost use Rattle.o2_view.specs.Views.{view_state, view_blocks};
 ghost use Rattle.o2_model.specs.Words.{among};
 ghost use Rattle.o2_model.specs.Directories.{own_inodes};
 ghost use Rattle.o2_model.specs.Inodes.{has_fast_text, is_link_kind, is_file, is_link};
+ghost use Rattle.o2_model.specs.Contents.{maps_cluster};
 ghost use Rattle.o2_model.specs.Checks.InodeSize.{has_sound_size as is_sound};
-ghost use Rattle.o2_extent.specs.Maps.{has_cluster};
 ghost use Rattle.o2_extent.specs.Seen.{HasSizes, LiesIn, volume_seen};
 ghost use Rattle.o2_extent.specs.Reads.{OnlyReads};
 ghost use Rattle.o2_dir.specs.Fails.{IsRead};
@@ -26,7 +26,7 @@ use std::alloc::Global;
 
 /// Whether a record is about the first cluster.
 fn maps_first(leaves: &[Leaf]) -> bool
-    ensures { result ≡ list_any (has_cluster 0) leaves.now }
+    ensures { result ≡ list_any (maps_cluster 0) leaves.now }
 {
     for leaf in leaves {
         if leaf.cpos == 0 && 0 < leaf.clusters {
@@ -39,7 +39,7 @@ fn maps_first(leaves: &[Leaf]) -> bool
 /// Whether a link has a text, in the dinode of these bytes or in its first cluster.
 fn has_text(dinode: &Dinode, bytes: &[u8], leaves: &[Leaf]) -> bool
     requires { 512 ≤ length bytes.now }
-    ensures { result ≡ (nat_lt 0 dinode.now.size && (if has_fast_text dinode.now then nat_lt dinode.now.size (length bytes.now - last_part_place) else list_any (has_cluster 0) leaves.now)) }
+    ensures { result ≡ (nat_lt 0 dinode.now.size && (if has_fast_text dinode.now then nat_lt dinode.now.size (length bytes.now - last_part_place) else list_any (maps_cluster 0) leaves.now)) }
 {
     let size = dinode.size;
     if size == 0 {

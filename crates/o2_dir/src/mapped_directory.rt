@@ -1,5 +1,5 @@
 // A directory whose entries stand in its blocks.
-ghost use Rattle.std.specs.Prelude.{◌≡◌, ◌≤◌, ◌/◌, ◌%◌, ◌==◌, ◌&&◌, nat_lt, length, ℕ, map, IfOk, IsErrOf, Some};
+ghost use Rattle.std.specs.Prelude.{◌≡◌, ◌≤◌, ◌/◌, ◌%◌, ◌==◌, ◌&&◌, nat_lt, length, ℕ, IfOk, IsErrOf, Some};
 ghost use Rattle.std.specs.Result.{IfErr};
 ghost use Rattle.o2_disk.specs.Image.{Image};
 ghost use Rattle.o2_disk.specs.Device.{Rose};
@@ -9,7 +9,6 @@ ghost use Rattle.o2_extent.specs.Seen.{LiesIn, volume_seen};
 ghost use Rattle.o2_extent.specs.Reads.{OnlyReads};
 ghost use Rattle.o2_extent.specs.Readings.{Within};
 ghost use Rattle.o2_dir.specs.Fails.{FailsNone, FailsFirst, IsMapped};
-ghost use Rattle.o2_dir.specs.Told.{told};
 
 use crate::blocks::read_places;
 use crate::places::{Place, places_within};
@@ -42,7 +41,7 @@ pub fn mapped<D: Disk, const N: usize>(
     requires geo { LiesIn geo.now view.old }
     requires within { Within geo.now leaves.now }
     requires is { (I : Image) → (view_state view.old).content ≡ Some I → IsMapped (volume_seen geo.now I) inode size leaves.now }
-    ensures entries { IfOk result (λ entries. (I : Image) → (view_state view.old).content ≡ Some I → map told entries ≡ directory_entries (volume_seen geo.now I) inode) }
+    ensures entries { IfOk result (λ entries. (I : Image) → (view_state view.old).content ≡ Some I → entries ≡ directory_entries (volume_seen geo.now I) inode) }
     ensures sound { IfOk result (λ _. (I : Image) → (view_state view.old).content ≡ Some I → FailsNone (volume_seen geo.now I) inode) }
     ensures bad { IfErr result (λ fault. (check : Check) (b : ℕ) → fault ≡ DirFault.Bad check b → (I : Image) → (view_state view.old).content ≡ Some I
         → FailsFirst (volume_seen geo.now I) inode check b) }

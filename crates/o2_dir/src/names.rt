@@ -1,5 +1,5 @@
 // Entries by their names.
-ghost use Rattle.std.specs.Prelude.{◌≡◌, ◌<◌, ℕ, true, map, option_map, find, Some, None, IfOk, IsErrOf};
+ghost use Rattle.std.specs.Prelude.{◌≡◌, ◌<◌, ℕ, true, option_map, find, Some, None, IfOk, IsErrOf};
 ghost use Rattle.std.specs.Result.{IfErr};
 ghost use Rattle.o2_disk.specs.Image.{Image};
 ghost use Rattle.o2_disk.specs.Device.{Rose};
@@ -10,7 +10,6 @@ ghost use Rattle.o2_model.specs.Directories.{first_named, is_named};
 ghost use Rattle.o2_extent.specs.Seen.{LiesIn, volume_seen};
 ghost use Rattle.o2_extent.specs.Reads.{OnlyReads};
 ghost use Rattle.o2_dir.specs.Fails.{FailsNone, FailsFirst};
-ghost use Rattle.o2_dir.specs.Told.{told};
 
 use crate::directory::entries;
 use crate::{DirFault, Entry};
@@ -21,7 +20,7 @@ use std::alloc::Global;
 
 /// The first of the entries that has the name.
 fn take_named(entries: Vec<Entry>, name: &[u8]) -> Option<Entry>
-    ensures { option_map told result ≡ find (is_named name.now) (map told entries.items) }
+    ensures { result ≡ find (is_named name.now) entries.items }
 {
     for entry in entries {
         if entry.name.as_slice() == name {
@@ -43,7 +42,7 @@ pub fn look_up<D: Disk, const N: usize>(
     requires geo { LiesIn geo.now view.old }
     requires inode { inode < view_blocks view.old }
     requires directory { (I : Image) → (view_state view.old).content ≡ Some I → is_directory (volume_seen geo.now I) inode ≡ true }
-    ensures found { IfOk result (λ entry. (I : Image) → (view_state view.old).content ≡ Some I → first_named (volume_seen geo.now I) inode name.now ≡ Some (told entry)) }
+    ensures found { IfOk result (λ entry. (I : Image) → (view_state view.old).content ≡ Some I → first_named (volume_seen geo.now I) inode name.now ≡ Some entry) }
     ensures sound { IfOk result (λ _. (I : Image) → (view_state view.old).content ≡ Some I → FailsNone (volume_seen geo.now I) inode) }
     ensures absent { IsErrOf result DirFault.Absent → (I : Image) → (view_state view.old).content ≡ Some I
         → FailsNone (volume_seen geo.now I) inode × (first_named (volume_seen geo.now I) inode name.now ≡ None) }

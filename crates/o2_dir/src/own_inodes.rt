@@ -8,7 +8,6 @@ ghost use Rattle.o2_model.specs.Words.{among};
 ghost use Rattle.o2_model.specs.Directories.{is_dot, own_inodes};
 ghost use Rattle.o2_extent.specs.Seen.{LiesIn, volume_seen};
 ghost use Rattle.o2_extent.specs.Reads.{OnlyReads};
-ghost use Rattle.o2_dir.specs.Told.{told};
 
 use crate::Entry;
 use crate::directory_blocks::read_blocks;
@@ -19,7 +18,7 @@ use std::alloc::Global;
 
 /// Whether the entry is `.` or `..`.
 pub fn is_dot_entry(entry: &Entry) -> bool
-    ensures { result ≡ is_dot (told entry.now) }
+    ensures { result ≡ is_dot entry.now }
 {
     let name = entry.name.as_slice();
     name == b".".as_slice() || name == b"..".as_slice()
@@ -27,7 +26,7 @@ pub fn is_dot_entry(entry: &Entry) -> bool
 
 /// Whether an entry other than the dots names the inode.
 fn are_naming(entries: &[Entry], inode: u64) -> bool
-    ensures { result ≡ among (map (λ e. e.inode) (filter (λ e. not (is_dot e)) (map told entries.now))) inode }
+    ensures { result ≡ among (map (λ e. e.inode) (filter (λ e. not (is_dot e)) entries.now)) inode }
 {
     for entry in entries {
         if !is_dot_entry(entry) && entry.inode == inode {

@@ -7,7 +7,7 @@ ghost use Rattle.o2_view.specs.Views.{view_state, view_blocks};
 ghost use Rattle.o2_model.specs.declared.check.Check.{Check};
 ghost use Rattle.o2_model.specs.Volume.{is_valid};
 ghost use Rattle.o2_model.specs.Inodes.{is_directory};
-ghost use Rattle.o2_model.specs.Directories.{Entry as Live};
+ghost use Rattle.o2_model.specs.declared.entry.Entry.{Entry};
 ghost use Rattle.o2_extent.specs.Seen.{LiesIn, volume_seen};
 ghost use Rattle.o2_extent.specs.Reads.{OnlyReads};
 ghost use Rattle.o2_dir.specs.Paths.{StepsTo, Lacks, FailsAt};
@@ -74,7 +74,7 @@ pub fn step<D: Disk, const N: usize>(
 ) -> Result<u64, PathFault>
     requires geo { LiesIn geo.now view.old }
     requires inode { inode < view_blocks view.old }
-    ensures to { IfOk result (λ i. (I : Image) → (view_state view.old).content ≡ Some I → (e : Live) × StepsTo (volume_seen geo.now I) inode name.now e × (i ≡ e.inode)) }
+    ensures to { IfOk result (λ i. (I : Image) → (view_state view.old).content ≡ Some I → (e : Entry) × StepsTo (volume_seen geo.now I) inode name.now e × (i ≡ e.inode)) }
     ensures inside { IfOk result (λ i. i < view_blocks view.old) }
     ensures absent { IsErrOf result PathFault.Absent → (I : Image) → (view_state view.old).content ≡ Some I → Lacks (volume_seen geo.now I) inode name.now }
     ensures kind { IsErrOf result PathFault.WrongKind → (I : Image) → (view_state view.old).content ≡ Some I → is_directory (volume_seen geo.now I) inode ≡ false }

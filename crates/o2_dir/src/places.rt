@@ -2,7 +2,8 @@
 ghost use Rattle.std.specs.Prelude.{◌≡◌, ◌+◌, ◌*◌, ◌^◌, ◌≤◌, ◌<◌, ◌∷◌, [], ◌++◌, nat_lt, All, IfOk, OnOk, is_ok, if◌then◌else◌, true, false};
 ghost use Rattle.std.specs.Option.{IfNone, IfSome};
 ghost use Rattle.o2_model.specs.Words.{push};
-ghost use Rattle.o2_dir.specs.Blocks.{is_written_leaf, places_in, places_of, EndsIn};
+ghost use Rattle.o2_model.specs.Directories.{is_written as has_written};
+ghost use Rattle.o2_dir.specs.Blocks.{places_in, places_of, EndsIn};
 
 use o2_disk::NoMemory;
 use o2_extent::Leaf;
@@ -30,7 +31,7 @@ pub fn put<T: Drop>(items: &mut Vec<T>, item: T) -> Result<(), NoMemory>
 
 /// Whether the clusters of the record are written.
 fn is_written(leaf: &Leaf) -> bool
-    ensures { result ≡ is_written_leaf leaf.now }
+    ensures { result ≡ has_written leaf.now }
 {
     !ExtentFlags(leaf.flags).has(ExtentFlags::UNWRITTEN)
 }

@@ -1,11 +1,10 @@
 // What was read of a directory so far.
-ghost use Rattle.std.specs.Prelude.{◌≡◌, ◌≤◌, ◌==◌, ◌||◌, not, ℕ, List, [], length, map, flat_map, OnOk, IfOk, Some, MatchOption};
+ghost use Rattle.std.specs.Prelude.{◌≡◌, ◌≤◌, ◌==◌, ◌||◌, not, ℕ, List, [], length, flat_map, OnOk, IfOk, Some, MatchOption};
 ghost use Rattle.std.specs.Result.{IfErr};
 ghost use Rattle.o2_model.specs.Words.{push, IsLeast};
 ghost use Rattle.o2_model.specs.Directories.{DirBlock, NamedEntry, entries_in, entries_of_block};
 ghost use Rattle.o2_model.specs.Checks.DirBlock.{begin_with_dots};
 ghost use Rattle.o2_dir.specs.Blocks.{Keeps};
-ghost use Rattle.o2_dir.specs.Told.{told};
 
 use crate::dots::begins_with_dots;
 use crate::entries_in_block::add_entries;
@@ -68,7 +67,7 @@ pub fn add_block(
 
 /// The entries, where all blocks are sound.
 pub fn settle(reading: Reading) -> Result<Entries, DirFault>
-    ensures sound { IfOk result (λ entries. (bs : List DirBlock) → Keeps reading bs → map told entries ≡ flat_map entries_of_block bs) }
+    ensures sound { IfOk result (λ entries. (bs : List DirBlock) → Keeps reading bs → entries ≡ flat_map entries_of_block bs) }
     ensures none { IfOk result (λ _. reading.faults.items ≡ []) }
     ensures bad { IfErr result (λ fault. (check : Check) (b : ℕ) → fault ≡ DirFault.Bad check b → (check ≡ Check.DirBlock) × IsLeast b reading.faults.items) }
     ensures device { IfErr result (λ fault. fault ≡ DirFault.DeviceFault → ⊥) }

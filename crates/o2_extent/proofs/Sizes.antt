@@ -3,11 +3,11 @@ use Rattle.std.proofs.Common.{◌≡◌, ℕ, ◌+◌, ◌-◌, ◌*◌, ◌/◌
 use Rattle.std.proofs.Math.Nat.{div-add-mod, add-mul, mul_comm, mul-le-mul_right}
 use Rattle.std.proofs.Math.Pow.{pow_mono}
 use Rattle.std.proofs.lemmas.Bool.Decides.{nat_tests}
-use Rattle.o2_ondisk.specs.declared.extent_rec.ExtentRec.{ExtentRec}
 use Rattle.o2_model.specs.Volume.{Volume, per_cluster, blocks}
 use Rattle.o2_model.specs.Clusters.{are_clusters_in_range}
-use Rattle.o2_model.specs.Extents.{leaf_clusters, is_sound_leaf}
+use Rattle.o2_model.specs.Extents.{is_sound_leaf}
 use Rattle.o2_model.specs.declared.geo.Geo.{Geo}
+use Rattle.o2_model.specs.declared.leaf.Leaf.{Leaf}
 use Rattle.o2_extent.specs.Seen.{HasSizes}
 
 module _ (geo : Geo) (h : HasSizes geo) where
@@ -39,11 +39,11 @@ clusters_within v b count good =
     let apart : (b / pc + count) * pc ≡ b / pc * pc + count * pc = add-mul (b / pc) count pc in
     omega (arith, div-add-mod b pc, mul_comm pc (b / pc), whole, apart, mul-le-mul_right pc fits)
 
-pub sound_within : (v : Volume) (m low : ℕ) (r : ExtentRec) → is_sound_leaf v m low r ≡ true → r.blkno + leaf_clusters r * per_cluster v ≤ blocks v
+pub sound_within : (v : Volume) (m low : ℕ) (leaf : Leaf) → is_sound_leaf v m low leaf ≡ true → leaf.block + leaf.clusters * per_cluster v ≤ blocks v
 unfolding is_sound_leaf
-sound_within v m low r good =
-    let inside : are_clusters_in_range v r.blkno (leaf_clusters r) ≡ true = grind (arith, nat_tests) in
-    clusters_within v r.blkno (leaf_clusters r) inside
+sound_within v m low leaf good =
+    let inside : are_clusters_in_range v leaf.block leaf.clusters ≡ true = grind (arith, nat_tests) in
+    clusters_within v leaf.block leaf.clusters inside
 
 -- a block of a cluster of a record lies where the record's clusters do
 pub block_within : (pc block clusters cpos c k n : ℕ) → cpos ≤ c → c < cpos + clusters → k < pc → block + clusters * pc ≤ n → block + pc * (c - cpos) + k < n

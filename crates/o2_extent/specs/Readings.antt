@@ -1,19 +1,15 @@
 -- What was read of a tree, as the reader keeps it.
-use Rattle.std.specs.Prelude.{◌≡◌, ℕ, ◌+◌, ◌-◌, ◌*◌, ◌^◌, ◌≤◌, true, All, List, ◌∷◌, length, map, Some}
+use Rattle.std.specs.Prelude.{◌≡◌, ℕ, ◌+◌, ◌-◌, ◌*◌, ◌^◌, ◌≤◌, true, All, List, ◌∷◌, length, Some}
 use Rattle.o2_disk.specs.Image.{Image}
 use Rattle.o2_disk.specs.declared.disk.Disk as disk
 use Rattle.o2_ondisk.specs.declared.extent_rec.ExtentRec.{ExtentRec}
 use Rattle.o2_model.specs.declared.geo.Geo.{Geo}
+use Rattle.o2_model.specs.declared.leaf.Leaf.{Leaf}
 use Rattle.o2_model.specs.Volume.{Volume}
-use Rattle.o2_model.specs.Extents.{Extents, leaf_clusters, leaf_flags, end_of, names_new_block, is_extent_block, records_in_block, with_met, with_seen, with_fault, read_records}
+use Rattle.o2_model.specs.Extents.{Extents, end_of, names_new_block, is_extent_block, records_in_block, with_met, with_seen, with_fault, read_records}
 use Rattle.o2_view.specs.Views.{view_state}
 use Rattle.o2_view.specs.declared.view.View.{View}
-use Rattle.o2_extent.specs.declared.leaf.Leaf.{Leaf}
 use Rattle.o2_extent.specs.declared.reading.Reading.{Reading}
-
--- a record of a leaf list, its fields apart
-abbrev pub leaf_of : ExtentRec → Leaf
-leaf_of r = record { cpos = r.cpos; clusters = leaf_clusters r; block = r.blkno; flags = leaf_flags r }
 
 -- the clusters of the record lie within the volume of these numbers
 abbrev pub IsWithin : Geo → Leaf → Type 0
@@ -25,7 +21,7 @@ Within geo leaves = All (IsWithin geo) leaves
 
 -- the reader keeps this reading
 pub record Keeps (reading : Reading) (t : Extents) : Type 0 where
-  pub leaves : reading.leaves.items ≡ map leaf_of t.leaves
+  pub leaves : reading.leaves.items ≡ t.leaves
   pub end : reading.end ≡ end_of t.leaves
   pub seen : reading.seen.items ≡ t.seen
   pub faults : reading.faults.items ≡ t.faults

@@ -1,5 +1,5 @@
 // The leaf records of an inode.
-ghost use Rattle.std.specs.Prelude.{◌≡◌, ◌<◌, [], ℕ, map, Some, IfOk, IsErrOf, MatchOption};
+ghost use Rattle.std.specs.Prelude.{◌≡◌, ◌<◌, [], ℕ, Some, IfOk, IsErrOf, MatchOption};
 ghost use Rattle.std.specs.Result.{IfErr};
 ghost use Rattle.o2_disk.specs.Image.{Image};
 ghost use Rattle.o2_disk.specs.Device.{Rose};
@@ -10,7 +10,6 @@ ghost use Rattle.o2_model.specs.Inodes.{leaf_records};
 ghost use Rattle.o2_model.specs.Checks.Extent.{extent_faults};
 ghost use Rattle.o2_extent.specs.Seen.{LiesIn, volume_seen};
 ghost use Rattle.o2_extent.specs.Reads.{OnlyReads};
-ghost use Rattle.o2_extent.specs.Readings.{leaf_of};
 
 use crate::Leaves;
 use crate::inode::read_inode;
@@ -35,7 +34,7 @@ pub fn records<D: Disk, const N: usize>(
 ) -> Result<Leaves, ReadFault>
     requires geo { LiesIn geo.now view.old }
     requires owner { owner < view_blocks view.old }
-    ensures leaves { IfOk result (λ leaves. (I : Image) → (view_state view.old).content ≡ Some I → leaves ≡ map leaf_of (leaf_records (volume_seen geo.now I) owner)) }
+    ensures leaves { IfOk result (λ leaves. (I : Image) → (view_state view.old).content ≡ Some I → leaves ≡ leaf_records (volume_seen geo.now I) owner) }
     ensures sound { IfOk result (λ _. (I : Image) → (view_state view.old).content ≡ Some I → extent_faults (volume_seen geo.now I) owner ≡ []) }
     ensures bad { IfErr result (λ fault. (check : Check) (b : ℕ) → fault ≡ ReadFault.Bad check b
         → (check ≡ Check.Extent) × ((I : Image) → (view_state view.old).content ≡ Some I → IsLeast b (extent_faults (volume_seen geo.now I) owner))) }

@@ -17,11 +17,12 @@ pub use dinode::{has_list, is_fast_link, is_inline};
 pub use geometry::{block_bytes, blocks_per_cluster, volume_blocks};
 pub use inode::{Inode, read_inode};
 pub use inode_records::{least, records};
-pub use leaf::{Leaf, Leaves};
 pub use maps::map_cluster;
+pub use o2_model::{Leaf, Leaves};
 pub use pieces::add_bytes;
 pub use reading::Reading;
 pub use runs::{ExtentList, list_of_runs};
+pub use tree::look;
 
 #[cfg(test)]
 mod tests;

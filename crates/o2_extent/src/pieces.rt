@@ -1,16 +1,15 @@
 // The bytes of a file, block by block.
-ghost use Rattle.std.specs.Prelude.{◌≡◌, ◌+◌, ◌-◌, ◌*◌, ◌^◌, ◌<◌, ◌≤◌, ◌++◌, true, find, map, length, List, OnOk, IsErrOf, Some};
+ghost use Rattle.std.specs.Prelude.{◌≡◌, ◌+◌, ◌-◌, ◌*◌, ◌^◌, ◌<◌, ◌≤◌, ◌++◌, true, find, map, length, OnOk, IsErrOf, Some};
 ghost use Rattle.std.specs.List.{range_with_len};
 ghost use Rattle.std.specs.Option.{IfSome};
 ghost use Rattle.o2_disk.specs.Image.{Image};
 ghost use Rattle.o2_disk.specs.Device.{Rose};
 ghost use Rattle.o2_view.specs.Views.{view_state};
-ghost use Rattle.o2_ondisk.specs.declared.extent_rec.ExtentRec.{ExtentRec as Record};
-ghost use Rattle.o2_model.specs.Contents.{byte_of};
+ghost use Rattle.o2_model.specs.Contents.{maps_cluster, byte_of};
 ghost use Rattle.o2_extent.specs.Seen.{HasSizes, LiesIn, volume_seen};
 ghost use Rattle.o2_extent.specs.Reads.{OnlyReads};
-ghost use Rattle.o2_extent.specs.Readings.{IsWithin, Within, leaf_of};
-ghost use Rattle.o2_extent.specs.Maps.{has_cluster, written_at, piece_byte};
+ghost use Rattle.o2_extent.specs.Readings.{IsWithin, Within};
+ghost use Rattle.o2_extent.specs.Maps.{written_at, piece_byte};
 
 use crate::Leaf;
 use crate::geometry::{block_bytes, blocks_per_cluster, volume_blocks};
@@ -24,8 +23,8 @@ use o2_view::{View, ViewFault};
 /// The first record that is about cluster `c`.
 fn find_leaf(geo: &Geo, leaves: &[Leaf], c: u64) -> Option<Leaf>
     requires within { Within geo.now leaves.now }
-    ensures found { result ≡ find (has_cluster c) leaves.now }
-    ensures is_about { IfSome result (λ leaf. has_cluster c leaf ≡ true) }
+    ensures found { result ≡ find (maps_cluster c) leaves.now }
+    ensures is_about { IfSome result (λ leaf. maps_cluster c leaf ≡ true) }
     ensures inside { IfSome result (λ leaf. IsWithin geo.now leaf) }
 {
     for leaf in leaves {
@@ -120,8 +119,8 @@ pub fn add_bytes<D: Disk, const N: usize>(
     requires geo { LiesIn geo.now view.old }
     requires within { Within geo.now leaves.now }
     requires order { at ≤ end }
-    ensures bytes { OnOk result ((I : Image) → (view_state view.old).content ≡ Some I → (rs : List Record) → leaves.now ≡ map leaf_of rs
-        → out.new.items ≡ out.old.items ++ map (byte_of (volume_seen geo.now I) rs) (range_with_len at (end - at))) }
+    ensures bytes { OnOk result ((I : Image) → (view_state view.old).content ≡ Some I
+        → out.new.items ≡ out.old.items ++ map (byte_of (volume_seen geo.now I) leaves.now) (range_with_len at (end - at))) }
     ensures reads { OnlyReads view.old view.new }
     ensures fault { IsErrOf result ViewFault.DeviceFault → Rose (view_state view.old).faults (view_state view.new).faults }
 {

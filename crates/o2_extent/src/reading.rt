@@ -2,12 +2,13 @@
 ghost use Rattle.std.specs.Prelude.{◌≡◌, [], OnOk, is_ok, if◌then◌else◌};
 ghost use Rattle.o2_disk.specs.Image.{Image};
 ghost use Rattle.o2_model.specs.Words.{among, push};
-ghost use Rattle.o2_model.specs.Extents.{Extents, is_sound_leaf, with_leaf, with_seen, with_fault, nothing_read};
+ghost use Rattle.o2_model.specs.Extents.{Extents, leaf_of, is_sound_leaf, with_leaf, with_seen, with_fault, nothing_read};
 ghost use Rattle.o2_extent.specs.Seen.{HasSizes, volume_seen};
-ghost use Rattle.o2_extent.specs.Readings.{Keeps, leaf_of};
+ghost use Rattle.o2_extent.specs.Readings.{Keeps};
 
 use crate::Leaf;
 use crate::geometry::are_whole_clusters_in_range;
+use crate::leaf::leaf_of_record;
 use crate::list::put;
 use o2_disk::NoMemory;
 use o2_model::Geo;
@@ -43,11 +44,11 @@ pub fn start(alloc: Global) -> Reading
 
 /// Adds a leaf record.
 pub fn add_leaf(reading: &mut Reading, r: &ExtentRec) -> Result<(), NoMemory>
-    ensures added { OnOk result ((t : Extents) → Keeps reading.old t → Keeps reading.new (with_leaf t r.now)) }
+    ensures added { OnOk result ((t : Extents) → Keeps reading.old t → Keeps reading.new (with_leaf t (leaf_of r.now))) }
     ensures seen { reading.new.seen ≡ reading.old.seen }
     ensures leaves { reading.new.leaves.items ≡ (if is_ok result then push reading.old.leaves.items (leaf_of r.now) else reading.old.leaves.items) }
 {
-    put(&mut reading.leaves, Leaf::of_record(r))?;
+    put(&mut reading.leaves, leaf_of_record(r))?;
     reading.end = u64::from(r.cpos) + u64::from(r.size.leaf_clusters());
     Ok(())
 }
@@ -81,7 +82,7 @@ pub fn has_seen(reading: &Reading, b: u64) -> bool
 #[tactic(auto, unfolding(o2_model::specs::Extents::is_sound_leaf))]
 pub fn is_sound_record(geo: &Geo, most_flags: u8, low: u64, r: &ExtentRec) -> bool
     requires { HasSizes geo.now }
-    ensures { (I : Image) → result ≡ is_sound_leaf (volume_seen geo.now I) most_flags low r.now }
+    ensures { (I : Image) → result ≡ is_sound_leaf (volume_seen geo.now I) most_flags low (leaf_of r.now) }
 {
     let cpos = u64::from(r.cpos);
     let clusters = u64::from(r.size.leaf_clusters());

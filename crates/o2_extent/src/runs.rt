@@ -18,7 +18,7 @@ pub struct ExtentList {
 
 impl Model for ExtentList {
     ghost use Rattle.std.specs.Prelude.{List};
-    ghost use Rattle.o2_extent.specs.declared.leaf.Leaf.{Leaf as LeafRecord};
+    ghost use Rattle.o2_model.specs.declared.leaf.Leaf.{Leaf as LeafRecord};
 
     ghost Value = { List LeafRecord };
 

@@ -67,6 +67,7 @@ fn read_leaves(
 }
 
 /// The bytes of a block of the volume.
+#[tactic(auto, using(crate::proofs::Sizes::some_bytes, crate::proofs::Sizes::few_bytes))]
 pub fn look<D: Disk, const N: usize>(
     view: &mut View<'_, D, N>,
     geo: &Geo,
@@ -77,11 +78,11 @@ pub fn look<D: Disk, const N: usize>(
     ensures bytes { IfOk result (λ block. (I : Image) → (view_state view.old).content ≡ Some I → block ≡ block_at (2 ^ geo.now.block_bits) I b) }
     ensures size { IfOk result (λ block. length block ≡ 2 ^ geo.now.block_bits) }
     ensures long { IfOk result (λ block. 512 ≤ length block) }
+    ensures few { IfOk result (λ block. length block ≤ 4096) }
     ensures count { CallsAtMost 1 (view_state view.old) (view_state view.new) }
     ensures reads { OnlyReads view.old view.new }
     ensures fault { IsErrOf result ViewFault.DeviceFault → Rose (view_state view.old).faults (view_state view.new).faults }
 {
-    let _bytes = block_bytes(geo);
     view.block(b)
 }
 

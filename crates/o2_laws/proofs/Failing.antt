@@ -5,7 +5,7 @@ use Rattle.std.proofs.lemmas.Bool.{cases_Bool}
 use Rattle.o2_laws.proofs.Found.{append_nothing, map_none}
 use Rattle.o2_laws.proofs.Rising.{none_rising}
 use Rattle.o2_disk.specs.Image.{Image, block_at}
-use Rattle.o2_model.specs.Faults.{fails_at, those_not, fails_unless}
+use Rattle.o2_model.specs.Faults.{fails_at, those_not}
 use Rattle.o2_model.specs.Orders.{rising}
 use Rattle.o2_model.specs.Volume.{Volume, over, volume_of}
 use Rattle.o2_model.specs.declared.check.Check.{Check}
@@ -33,10 +33,6 @@ none_fails place holds (x ∷ xs) h = elim (cases_Bool (holds x)) [
   | inl good ↦ (good, none_fails place holds xs (rw good at h))
   | inr bad ↦ let e : map place (x ∷ those_not holds xs) ≡ [] = rw bad at h in cc
 ]
-
-pub holds_unless : (b : ℕ) (holds : Bool) → fails_unless b holds ≡ [] → holds ≡ true
-holds_unless b true h = refl
-holds_unless b false h = cc
 
 pub all_hold : {A : Type 0} (place : A → ℕ) (holds : A → Bool) (items : List A) → AllByRecursion (λ x. holds x ≡ true) items → fails_at place holds items ≡ []
 all_hold place holds [] h = refl

@@ -4,11 +4,12 @@ use Rattle.std.proofs.lemmas.Bool.{cases_Bool, or_right, or_left, eq-eqb}
 use Rattle.std.proofs.lemmas.List.{append-nil, append_assoc}
 use Rattle.std.proofs.lemmas.List.Folds.{list_any-append}
 use Rattle.o2_ondisk.specs.declared.extent_rec.ExtentRec.{ExtentRec}
+use Rattle.o2_model.specs.declared.leaf.Leaf.{Leaf}
 use Rattle.o2_model.specs.Words.{among, push}
 use Rattle.o2_model.specs.Volume.{Volume, over}
 use Rattle.o2_laws.specs.Frames.{SameOn}
 use Rattle.o2_model.specs.Clusters.{are_clusters_in_range}
-use Rattle.o2_model.specs.Extents.{Extents, leaf_clusters, list_in_block, with_leaf, with_seen, with_block, with_fault, end_of, is_sound_header, is_extent_block, is_sound_leaf, names_new_block, most_in_block, with_met, records_in_block, read_records, read_list, nothing_read, leaves_below, extent_list}
+use Rattle.o2_model.specs.Extents.{Extents, leaf_clusters, leaf_of, list_in_block, with_leaf, with_seen, with_block, with_fault, end_of, is_sound_header, is_extent_block, is_sound_leaf, names_new_block, most_in_block, with_met, records_in_block, read_records, read_list, nothing_read, leaves_below, extent_list}
 use Rattle.o2_model.specs.Inodes.{is_directory, extents, has_list, most_flags, most_in_dinode}
 use Rattle.o2_model.proofs.Readings.{met_seen}
 
@@ -33,8 +34,8 @@ among-push bs a b h = list_any-append (λ m. b == m) bs (a ∷ []) ∙ or_left _
 pub among_last : (bs : List ℕ) (b : ℕ) → among (push bs b) b ≡ true
 among_last bs b = list_any-append (λ m. b == m) bs (b ∷ []) ∙ or_right _ _ (or_left _ _ (eq-eqb b b refl))
 
-pub grows_leaf : (t : Extents) (r : ExtentRec) → Grows t (with_leaf t r)
-grows_leaf t r = record { seen = λ b h. h; faults = λ h. h }
+pub grows_leaf : (t : Extents) (leaf : Leaf) → Grows t (with_leaf t leaf)
+grows_leaf t leaf = record { seen = λ b h. h; faults = λ h. h }
 
 pub grows_seen : (t : Extents) (a : ℕ) → Grows t (with_seen t a)
 grows_seen t a = record { seen = λ b h. among-push t.seen a b h; faults = λ h. h }
@@ -57,7 +58,7 @@ pub reading_grows : (v : Volume) (m depth holder low : ℕ) (rs : List ExtentRec
 reading_grows v m depth holder low [] t = grows_none t
 reading_grows v m zero holder low (r ∷ rs) t =
     grows_cond (leaf_clusters r == 0) t _ _ (reading_grows v m zero holder low rs t)
-    (grows_cond (is_sound_leaf v m (end_of t.leaves) r) t _ _ (grows_both (grows_leaf t r) (reading_grows v m zero holder low rs (with_leaf t r))) (grows_fault t holder))
+    (grows_cond (is_sound_leaf v m (end_of t.leaves) (leaf_of r)) t _ _ (grows_both (grows_leaf t (leaf_of r)) (reading_grows v m zero holder low rs (with_leaf t (leaf_of r)))) (grows_fault t holder))
 reading_grows v m (suc depth) holder low (r ∷ rs) t =
     let t' = with_seen t r.blkno in
     grows_cond (not (names_new_block v low t.seen r)) t _ _
@@ -77,9 +78,9 @@ pub same_block : (v : Volume) (at : ℕ → List ℕ) (depth b : ℕ) → at b �
 unfolding is_extent_block
 same_block v at depth b same = rw same refl
 
-same_leaf : (v : Volume) (at : ℕ → List ℕ) (m low : ℕ) (r : ExtentRec) → is_sound_leaf (over v at) m low r ≡ is_sound_leaf v m low r
+same_leaf : (v : Volume) (at : ℕ → List ℕ) (m low : ℕ) (leaf : Leaf) → is_sound_leaf (over v at) m low leaf ≡ is_sound_leaf v m low leaf
 unfolding is_sound_leaf are_clusters_in_range
-same_leaf v at m low r = refl
+same_leaf v at m low leaf = refl
 
 pub same_met : (v : Volume) (at : ℕ → List ℕ) (b : ℕ) (t : Extents) → at b ≡ v.at b → with_met (over v at) b t ≡ with_met v b t
 unfolding with_met
@@ -99,10 +100,10 @@ reading_same v at m depth holder low [] t same none = refl
 reading_same v at m zero holder low (r ∷ rs) t same none =
     elim (cases_Bool (leaf_clusters r == 0)) [
       | inl empty ↦ rw empty (reading_same v at m zero holder low rs t (rw empty at same) (rw empty at none))
-      | inr some ↦ elim (cases_Bool (is_sound_leaf v m (end_of t.leaves) r)) [
+      | inr some ↦ elim (cases_Bool (is_sound_leaf v m (end_of t.leaves) (leaf_of r))) [
         | inl sound ↦
-            rw (some, same_leaf v at m (end_of t.leaves) r, sound)
-            (reading_same v at m zero holder low rs (with_leaf t r) (rw (some, sound) at same) (rw (some, sound) at none))
+            rw (some, same_leaf v at m (end_of t.leaves) (leaf_of r), sound)
+            (reading_same v at m zero holder low rs (with_leaf t (leaf_of r)) (rw (some, sound) at same) (rw (some, sound) at none))
         | inr bad ↦ absurd (push_some t.faults holder (rw (some, bad) at none))
       ]
     ]
@@ -189,8 +190,8 @@ leaves_are v m (suc depth) holder low [] t none = sym (append-nil t.leaves)
 leaves_are v m zero holder low (r ∷ rs) t none =
     elim (cases_Bool (leaf_clusters r == 0)) [
       | inl empty ↦ rw empty (leaves_are v m zero holder low rs t (rw empty at none))
-      | inr some ↦ elim (cases_Bool (is_sound_leaf v m (end_of t.leaves) r)) [
-        | inl sound ↦ rw (some, sound, leaves_are v m zero holder low rs (with_leaf t r) (rw (some, sound) at none)) (append_assoc t.leaves (r ∷ []) _)
+      | inr some ↦ elim (cases_Bool (is_sound_leaf v m (end_of t.leaves) (leaf_of r))) [
+        | inl sound ↦ rw (some, sound, leaves_are v m zero holder low rs (with_leaf t (leaf_of r)) (rw (some, sound) at none)) (append_assoc t.leaves (leaf_of r ∷ []) _)
         | inr bad ↦ absurd (push_some t.faults holder (rw (some, bad) at none))
       ]
     ]

@@ -13,11 +13,10 @@ use Rattle.o2_ondisk.specs.Dinodes.{dinode_of}
 use Rattle.o2_ondisk.specs.Kinds.{kind_of_mode}
 use Rattle.o2_ondisk.specs.declared.kind.Kind.{Kind}
 use Rattle.o2_ondisk.specs.declared.kind.Kind.TheVariants.{File, Directory, Character, Block, Fifo, Socket, Link}
-use Rattle.o2_ondisk.specs.declared.extent_rec.ExtentRec.{ExtentRec}
+use Rattle.o2_model.specs.declared.leaf.Leaf.{Leaf}
 use Rattle.o2_model.specs.Words.{among}
 use Rattle.o2_model.specs.Volume.{Volume, over, block_size, per_cluster, dinode}
 use Rattle.o2_laws.specs.Frames.{SameOn, content_blocks}
-use Rattle.o2_model.specs.Extents.{leaf_clusters}
 use Rattle.o2_model.specs.Inodes.{kind, extents, leaf_records, is_inline, is_fast_link}
 use Rattle.o2_model.specs.LeafRecords.{blocks_under}
 use Rattle.o2_model.specs.Directories.{is_written, dir_blocks, directory_entries}
@@ -42,23 +41,23 @@ under per blkno cpos n c part low high inside =
     let below : per * (c - cpos) + part < per * n = below_steps per (c - cpos) n part (omega (arith, low, high)) inside in
     in_range blkno (n * per) (blkno + per * (c - cpos) + part) (omega arith) (omega (arith, below))
 
-maps_low : (c : ℕ) (r : ExtentRec) → maps_cluster c r ≡ true → r.cpos ≤ c
+maps_low : (c : ℕ) (r : Leaf) → maps_cluster c r ≡ true → r.cpos ≤ c
 maps_low c r h = grind (arith, nat_tests)
 
-maps_high : (c : ℕ) (r : ExtentRec) → maps_cluster c r ≡ true → c < r.cpos + leaf_clusters r
+maps_high : (c : ℕ) (r : Leaf) → maps_cluster c r ≡ true → c < r.cpos + r.clusters
 maps_high c r h = grind (arith, nat_tests)
 
 -- the block that a record tells for block j of a file is one of the record's
-block_under : (v : Volume) (j : ℕ) (r : ExtentRec) → maps_cluster (j / per_cluster v) r ≡ true → among (blocks_under v r) (mapped_block (per_cluster v) (j / per_cluster v) r + j % per_cluster v) ≡ true
+block_under : (v : Volume) (j : ℕ) (r : Leaf) → maps_cluster (j / per_cluster v) r ≡ true → among (blocks_under v r) (mapped_block (per_cluster v) (j / per_cluster v) r + j % per_cluster v) ≡ true
 block_under v j r h =
-    under (per_cluster v) r.blkno r.cpos (leaf_clusters r) (j / per_cluster v) (j % per_cluster v)
+    under (per_cluster v) r.block r.cpos r.clusters (j / per_cluster v) (j % per_cluster v)
     (maps_low (j / per_cluster v) r h) (maps_high (j / per_cluster v) r h) (mod-lt j (pow_pos (v.geo.cluster_bits - v.geo.block_bits)))
 
 -- the blocks of the written ones of these records
-abbrev written_blocks : Volume → List ExtentRec → List ℕ
+abbrev written_blocks : Volume → List Leaf → List ℕ
 written_blocks v rs = flat_map (blocks_under v) (filter is_written rs)
 
-under_same : (v : Volume) (at : ℕ → List ℕ) (j o : ℕ) (r : ExtentRec) (rs : List ExtentRec) → maps_cluster (j / per_cluster v) r ≡ true → SameOn (written_blocks v (r ∷ rs)) v at → byte_under (over v at) j o r ≡ byte_under v j o r
+under_same : (v : Volume) (at : ℕ → List ℕ) (j o : ℕ) (r : Leaf) (rs : List Leaf) → maps_cluster (j / per_cluster v) r ≡ true → SameOn (written_blocks v (r ∷ rs)) v at → byte_under (over v at) j o r ≡ byte_under v j o r
 under_same v at j o r rs maps same = elim (cases_Bool (is_written r)) [
   | inr hidden ↦ rw hidden refl
   | inl written ↦
@@ -67,7 +66,7 @@ under_same v at j o r rs maps same = elim (cases_Bool (is_written r)) [
       rw written (ap (λ bytes. slice_index bytes o) (same.same place inside))
 ]
 
-rest_same : (v : Volume) (at : ℕ → List ℕ) (r : ExtentRec) (rs : List ExtentRec) → SameOn (written_blocks v (r ∷ rs)) v at → SameOn (written_blocks v rs) v at
+rest_same : (v : Volume) (at : ℕ → List ℕ) (r : Leaf) (rs : List Leaf) → SameOn (written_blocks v (r ∷ rs)) v at → SameOn (written_blocks v rs) v at
 rest_same v at r rs same = record {
   same = λ b h. same.same b (elim (cases_Bool (is_written r)) [
     | inr hidden ↦ rw hidden h
@@ -75,7 +74,7 @@ rest_same v at r rs same = record {
   ]);
 }
 
-byte_same : (v : Volume) (at : ℕ → List ℕ) (j o : ℕ) (rs : List ExtentRec) → SameOn (written_blocks v rs) v at
+byte_same : (v : Volume) (at : ℕ → List ℕ) (j o : ℕ) (rs : List Leaf) → SameOn (written_blocks v rs) v at
     → option_map_or (byte_under (over v at) j o) (find (maps_cluster (j / per_cluster v)) rs) 0 ≡ option_map_or (byte_under v j o) (find (maps_cluster (j / per_cluster v)) rs) 0
 byte_same v at j o [] same = refl
 byte_same v at j o (r ∷ rs) same = elim (cases_Bool (maps_cluster (j / per_cluster v) r)) [
@@ -83,7 +82,7 @@ byte_same v at j o (r ∷ rs) same = elim (cases_Bool (maps_cluster (j / per_clu
   | inr other ↦ rw other (byte_same v at j o rs (rest_same v at r rs same))
 ]
 
-bytes_map : (v : Volume) (at : ℕ → List ℕ) (rs : List ExtentRec) → SameOn (written_blocks v rs) v at → (ks : List ℕ) → map (byte_of (over v at) rs) ks ≡ map (byte_of v rs) ks
+bytes_map : (v : Volume) (at : ℕ → List ℕ) (rs : List Leaf) → SameOn (written_blocks v rs) v at → (ks : List ℕ) → map (byte_of (over v at) rs) ks ≡ map (byte_of v rs) ks
 unfolding byte_in_block
 bytes_map v at rs same [] = refl
 bytes_map v at rs same (k ∷ ks) = rw (byte_same v at (k / block_size v) (k % block_size v) rs same, bytes_map v at rs same ks) refl

@@ -6,7 +6,7 @@ use Rattle.std.proofs.lemmas.List.Folds.{list_any-append}
 use Rattle.std.proofs.lemmas.List.{map-append}
 use Rattle.o2_model.specs.Words.{among}
 use Rattle.o2_model.specs.Volume.{Volume, over}
-use Rattle.o2_ondisk.specs.declared.extent_rec.ExtentRec.{ExtentRec}
+use Rattle.o2_model.specs.declared.leaf.Leaf.{Leaf}
 use Rattle.o2_model.specs.Inodes.{extents, leaf_records, is_inline}
 use Rattle.o2_model.specs.Directories.{DirBlock, dir_block, mapped, is_written, dir_blocks, entries_of_block, directory_entries}
 use Rattle.o2_laws.specs.Frames.{SameOn}
@@ -20,7 +20,7 @@ run_same v at place block [] same = refl
 run_same v at place block (k ∷ ks) same =
     rw (same.same (block + k) (or_left _ _ (eq-eqb (block + k) (block + k) refl)), run_same v at place block ks (record { same = λ b h. same.same b (or_right _ _ h) })) refl
 
-records_same : (v : Volume) (at : ℕ → List ℕ) (limit : ℕ) (rs : List ExtentRec) → SameOn (places (flat_map (mapped v limit) rs)) v at → flat_map (mapped (over v at) limit) rs ≡ flat_map (mapped v limit) rs
+records_same : (v : Volume) (at : ℕ → List ℕ) (limit : ℕ) (rs : List Leaf) → SameOn (places (flat_map (mapped v limit) rs)) v at → flat_map (mapped (over v at) limit) rs ≡ flat_map (mapped v limit) rs
 records_same v at limit [] same = refl
 records_same v at limit (r ∷ rs) same =
     let parts : (b : ℕ) → among (places (flat_map (mapped v limit) (r ∷ rs))) b ≡ (among (places (mapped v limit r)) b || among (places (flat_map (mapped v limit) rs)) b)

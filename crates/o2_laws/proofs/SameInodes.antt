@@ -9,7 +9,8 @@ use Rattle.o2_model.specs.declared.allocator.Group.{Group}
 use Rattle.o2_model.specs.Words.{among}
 use Rattle.o2_model.specs.Volume.{Volume, over, blocks, is_valid}
 use Rattle.o2_model.specs.Inodes.{is_directory}
-use Rattle.o2_model.specs.Directories.{directory_entries, Entry, is_dot, named_entries, own_inodes}
+use Rattle.o2_model.specs.declared.entry.Entry.{Entry}
+use Rattle.o2_model.specs.Directories.{directory_entries, is_dot, named_entries, own_inodes}
 use Rattle.o2_model.specs.Allocators.{are_inodes, allocators}
 use Rattle.o2_model.specs.Groups.{group_walk, is_bit_set_in, groups, is_bit_set, bit_of_block, is_on_set_bit, is_inode, inodes_of, has_inode_bit}
 use Rattle.o2_model.specs.Tree.{names_users, followed, tree_walk}

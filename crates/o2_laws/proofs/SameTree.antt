@@ -4,7 +4,8 @@ use Rattle.std.specs.Prelude.{slice_get, fold}
 use Rattle.std.specs.Option.{option_map_or}
 use Rattle.o2_model.specs.Volume.{Volume, over, blocks}
 use Rattle.o2_model.specs.Inodes.{is_directory}
-use Rattle.o2_model.specs.Directories.{Entry, named_entries}
+use Rattle.o2_model.specs.declared.entry.Entry.{Entry}
+use Rattle.o2_model.specs.Directories.{named_entries}
 use Rattle.o2_model.specs.Groups.{is_inode}
 use Rattle.o2_model.specs.Tree.{Entered, TreeWalk, names_users, followed, follow, look_through, walk_after, tree_walk}
 use Rattle.o2_laws.proofs.Found.{all_get}

@@ -12,7 +12,7 @@ use Rattle.std.proofs.lemmas.Map.Steps.{length-le_from_distinct_below}
 use Rattle.o2_model.specs.Words.{among}
 use Rattle.o2_model.specs.Volume.{Volume, blocks, is_valid}
 use Rattle.o2_model.specs.Inodes.{is_directory}
-use Rattle.o2_model.specs.Directories.{Entry}
+use Rattle.o2_model.specs.declared.entry.Entry.{Entry}
 use Rattle.o2_model.specs.Groups.{is_inode}
 use Rattle.std.proofs.lemmas.Option.{slice_get_past}
 use Rattle.o2_laws.specs.Frames.{entered_inodes as inodes_entered}

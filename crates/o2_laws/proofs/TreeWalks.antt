@@ -7,7 +7,8 @@ use Rattle.std.proofs.lemmas.Bool.{cases_Bool}
 use Rattle.o2_model.specs.Words.{among}
 use Rattle.o2_model.specs.Volume.{Volume}
 use Rattle.o2_model.specs.Inodes.{is_directory}
-use Rattle.o2_model.specs.Directories.{Entry, named_entries}
+use Rattle.o2_model.specs.declared.entry.Entry.{Entry}
+use Rattle.o2_model.specs.Directories.{named_entries}
 use Rattle.o2_model.specs.Groups.{is_inode}
 use Rattle.o2_laws.specs.Frames.{entered_inodes as inodes_entered}
 use Rattle.o2_model.specs.Tree.{Entered, TreeWalk, names_users, follow, look_through, at_root, walk_after}

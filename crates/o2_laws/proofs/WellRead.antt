@@ -6,34 +6,35 @@ use Rattle.std.proofs.lemmas.Bool.{cases_Bool}
 use Rattle.std.proofs.lemmas.Bool.Decides.{nat_tests}
 use Rattle.std.proofs.lemmas.List.{append-nil}
 use Rattle.o2_ondisk.specs.declared.extent_rec.ExtentRec.{ExtentRec}
+use Rattle.o2_model.specs.declared.leaf.Leaf.{Leaf}
 use Rattle.o2_model.specs.Words.{push}
 use Rattle.o2_model.specs.Volume.{Volume, per_cluster}
 use Rattle.o2_model.specs.Clusters.{are_clusters_in_range}
-use Rattle.o2_model.specs.Extents.{Extents, leaf_clusters, list_in_block, with_leaf, with_seen, with_fault, end_of, is_sound_header, is_extent_block, is_sound_leaf, names_new_block, most_in_block, with_met, records_in_block, read_records, read_list, nothing_read, extent_list}
+use Rattle.o2_model.specs.Extents.{Extents, leaf_clusters, leaf_of, list_in_block, with_leaf, with_seen, with_fault, end_of, is_sound_header, is_extent_block, is_sound_leaf, names_new_block, most_in_block, with_met, records_in_block, read_records, read_list, nothing_read, extent_list}
 use Rattle.o2_model.specs.Inodes.{extents, has_list, most_flags, most_in_dinode, extent_lists_of, leaf_records, records_of, extent_blocks_of}
 use Rattle.o2_laws.proofs.Readings.{push_some}
 
 -- the record begins with the first block of a cluster
-abbrev pub BeginsCluster : Volume → ExtentRec → Type 0
-BeginsCluster v r = r.blkno % per_cluster v ≡ 0
+abbrev pub BeginsCluster : Volume → Leaf → Type 0
+BeginsCluster v leaf = leaf.block % per_cluster v ≡ 0
 
 pub record IsWellRead (v : Volume) (t : Extents) : Type 0 where
   pub seen : t.faults ≡ [] → t.seen ≡ t.blocks
   pub leaves : AllByRecursion (BeginsCluster v) t.leaves
 
-leaf_begins : (v : Volume) (m low : ℕ) (r : ExtentRec) → is_sound_leaf v m low r ≡ true → BeginsCluster v r
+leaf_begins : (v : Volume) (m low : ℕ) (leaf : Leaf) → is_sound_leaf v m low leaf ≡ true → BeginsCluster v leaf
 unfolding is_sound_leaf are_clusters_in_range
-leaf_begins v m low r h = grind (arith, nat_tests)
+leaf_begins v m low leaf h = grind (arith, nat_tests)
 
-push_leaf : (v : Volume) (rs : List ExtentRec) (r : ExtentRec) → AllByRecursion (BeginsCluster v) rs → BeginsCluster v r → AllByRecursion (BeginsCluster v) (push rs r)
-push_leaf v [] r all is = (is, tt)
-push_leaf v (x ∷ xs) r all is = (all.0, push_leaf v xs r all.1 is)
+push_leaf : (v : Volume) (leaves : List Leaf) (leaf : Leaf) → AllByRecursion (BeginsCluster v) leaves → BeginsCluster v leaf → AllByRecursion (BeginsCluster v) (push leaves leaf)
+push_leaf v [] leaf all is = (is, tt)
+push_leaf v (x ∷ xs) leaf all is = (all.0, push_leaf v xs leaf all.1 is)
 
 pub well_none : (v : Volume) → IsWellRead v nothing_read
 well_none v = record { seen = λ h. refl; leaves = tt }
 
-well_leaf : (v : Volume) (t : Extents) (r : ExtentRec) → BeginsCluster v r → IsWellRead v t → IsWellRead v (with_leaf t r)
-well_leaf v t r begins h = record { seen = h.seen; leaves = push_leaf v t.leaves r h.leaves begins }
+well_leaf : (v : Volume) (t : Extents) (leaf : Leaf) → BeginsCluster v leaf → IsWellRead v t → IsWellRead v (with_leaf t leaf)
+well_leaf v t leaf begins h = record { seen = h.seen; leaves = push_leaf v t.leaves leaf h.leaves begins }
 
 well_fault : (v : Volume) (t : Extents) (b : ℕ) → IsWellRead v t → IsWellRead v (with_fault t b)
 well_fault v t b h = record { seen = λ none. absurd (push_some t.faults b none); leaves = h.leaves }
@@ -54,8 +55,8 @@ reading_well v m depth holder low [] t h = h
 reading_well v m zero holder low (r ∷ rs) t h =
     elim (cases_Bool (leaf_clusters r == 0)) [
       | inl empty ↦ rw empty (reading_well v m zero holder low rs t h)
-      | inr some ↦ elim (cases_Bool (is_sound_leaf v m (end_of t.leaves) r)) [
-        | inl sound ↦ rw (some, sound) (reading_well v m zero holder low rs (with_leaf t r) (well_leaf v t r (leaf_begins v m (end_of t.leaves) r sound) h))
+      | inr some ↦ elim (cases_Bool (is_sound_leaf v m (end_of t.leaves) (leaf_of r))) [
+        | inl sound ↦ rw (some, sound) (reading_well v m zero holder low rs (with_leaf t (leaf_of r)) (well_leaf v t (leaf_of r) (leaf_begins v m (end_of t.leaves) (leaf_of r) sound) h))
         | inr bad ↦ rw (some, bad) (well_fault v t holder h)
       ]
     ]

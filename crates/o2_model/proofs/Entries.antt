@@ -72,7 +72,7 @@ pub none_fill : (bytes : List ℕ) (es : List NamedEntry) → entries_in bytes �
 none_fill bytes es bad fill = let e : None ≡ Some es = sym bad ∙ fill-in es bytes fill in cc
 
 -- ---- a loop over the entries
-bad_in : (bytes : List ℕ) → 0 < length bytes → has_entry bytes ≡ false → entries_in bytes ≡ None
+pub bad_in : (bytes : List ℕ) → 0 < length bytes → has_entry bytes ≡ false → entries_in bytes ≡ None
 bad_in [] some bad = absurd (omega arith)
 bad_in (b ∷ bytes) some bad = entries-bad b bytes bad
 

@@ -3,6 +3,7 @@ pub mod Labels
 pub mod Readings
 pub mod Looks
 pub mod Entries
+pub mod Faults
 pub mod Skeletons
 pub mod Replays
 pub mod Recoverables

@@ -10,7 +10,7 @@ use Rattle.std.proofs.lemmas.Map.Steps.{length-le_from_distinct_below}
 use Rattle.o2_ondisk.specs.declared.extent_rec.ExtentRec.{ExtentRec}
 use Rattle.o2_model.specs.Words.{push, Apart}
 use Rattle.o2_model.specs.Volume.{Volume, blocks}
-use Rattle.o2_model.specs.Extents.{Extents, leaf_clusters, with_leaf, with_seen, end_of, is_sound_header, is_extent_block, is_sound_leaf, names_new_block, with_met, records_in_block, read_records, nothing_read, extent_list}
+use Rattle.o2_model.specs.Extents.{Extents, leaf_clusters, leaf_of, with_leaf, with_seen, end_of, is_sound_header, is_extent_block, is_sound_leaf, names_new_block, with_met, records_in_block, read_records, nothing_read, extent_list}
 use Rattle.o2_model.specs.Inodes.{extents, has_list, most_flags, most_in_dinode}
 use Rattle.o2_model.proofs.Readings.{met_seen}
 
@@ -50,8 +50,8 @@ reading_apart v m depth holder low [] t h = h
 reading_apart v m zero holder low (r ∷ rs) t h =
     elim (cases_Bool (leaf_clusters r == 0)) [
       | inl empty ↦ rw empty (reading_apart v m zero holder low rs t h)
-      | inr some ↦ elim (cases_Bool (is_sound_leaf v m (end_of t.leaves) r)) [
-        | inl sound ↦ rw (some, sound) (reading_apart v m zero holder low rs (with_leaf t r) h)
+      | inr some ↦ elim (cases_Bool (is_sound_leaf v m (end_of t.leaves) (leaf_of r))) [
+        | inl sound ↦ rw (some, sound) (reading_apart v m zero holder low rs (with_leaf t (leaf_of r)) h)
         | inr bad ↦ rw (some, bad) h
       ]
     ]

@@ -1,5 +1,5 @@
 -- What a user has on a volume, and what its size is, once its journals are replayed.
-use Rattle.std.specs.Prelude.{ℕ, List, map, drop, sum_by, Option}
+use Rattle.std.specs.Prelude.{ℕ, List, map, drop, Option}
 use Rattle.std.specs.Option.{option_map, option_map_or}
 use Rattle.std.specs.Ordering.{nat_cmp}
 use Rattle.std.specs.FinMap as finite
@@ -8,7 +8,7 @@ use Rattle.o2_ondisk.specs.Super.{super_of}
 use Rattle.o2_ondisk.specs.declared.superblock.Super.{Super}
 use Rattle.o2_disk.specs.Image.{Image}
 use Rattle.o2_model.specs.Volume.{Volume, opened}
-use Rattle.o2_model.specs.Extents.{leaf_clusters}
+use Rattle.o2_model.specs.LeafRecords.{clusters_in}
 use Rattle.o2_model.specs.Inodes.{leaf_records}
 use Rattle.o2_model.specs.SystemFiles.{slots}
 use Rattle.o2_model.specs.Tree.{path_cmp, tree_of}
@@ -50,7 +50,7 @@ super_of_volume v = super_of (drop last_part_place (v.at 2))
 
 -- the clusters of the slot's journal, none where there is no journal
 abbrev pub journal_length : Volume → ℕ → ℕ
-journal_length v slot = option_map_or (λ b. sum_by leaf_clusters (leaf_records v b)) (named_journal v slot) 0
+journal_length v slot = option_map_or (λ b. clusters_in (leaf_records v b)) (named_journal v slot) 0
 
 abbrev pub geometry_of : Volume → VolumeGeometry
 geometry_of v = record {

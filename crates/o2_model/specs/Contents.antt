@@ -3,36 +3,35 @@ use Rattle.std.specs.Prelude.{ℕ, ◌+◌, ◌-◌, ◌*◌, ◌/◌, ◌%◌, 
 use Rattle.std.specs.List.{range_with_len}
 use Rattle.std.specs.Option.{option_map_or}
 use Rattle.o2_ondisk.specs.Dinodes.{last_part_place}
-use Rattle.o2_ondisk.specs.declared.extent_rec.ExtentRec.{ExtentRec}
 use Rattle.o2_ondisk.specs.declared.kind.Kind.{Kind}
 use Rattle.o2_ondisk.specs.declared.kind.Kind.TheVariants.{File, Directory, Link}
+use Rattle.o2_model.specs.declared.leaf.Leaf.{Leaf}
 use Rattle.o2_model.specs.Volume.{Volume, block_size, per_cluster, dinode}
-use Rattle.o2_model.specs.Extents.{leaf_clusters}
 use Rattle.o2_model.specs.Inodes.{kind, is_inline, is_fast_link, leaf_records}
 use Rattle.o2_model.specs.Directories.{is_written, inline_bytes, directory_entries}
 
 -- the record is about cluster c of the inode
-abbrev pub maps_cluster : ℕ → ExtentRec → Bool
-maps_cluster c r = nat_le r.cpos c && nat_lt c (r.cpos + leaf_clusters r)
+abbrev pub maps_cluster : ℕ → Leaf → Bool
+maps_cluster c leaf = nat_le leaf.cpos c && nat_lt c (leaf.cpos + leaf.clusters)
 
 -- the first block of cluster c of the inode by such a record, where a cluster has so many blocks
-abbrev pub mapped_block : ℕ → ℕ → ExtentRec → ℕ
-mapped_block per_cluster c r = r.blkno + per_cluster * (c - r.cpos)
+abbrev pub mapped_block : ℕ → ℕ → Leaf → ℕ
+mapped_block per_cluster c leaf = leaf.block + per_cluster * (c - leaf.cpos)
 
 -- the bytes of block j of the file by the record of its cluster, where the record's clusters are written
-abbrev pub file_block : Volume → ℕ → ExtentRec → List ℕ
-file_block v j r = v.at (mapped_block (per_cluster v) (j / per_cluster v) r + j % per_cluster v)
+abbrev pub file_block : Volume → ℕ → Leaf → List ℕ
+file_block v j leaf = v.at (mapped_block (per_cluster v) (j / per_cluster v) leaf + j % per_cluster v)
 
 -- byte o of block j of the file by the record of its cluster: 0 where the clusters are not written
-abbrev pub byte_under : Volume → ℕ → ℕ → ExtentRec → ℕ
-byte_under v j o r = if is_written r then slice_index (file_block v j r) o else 0
+abbrev pub byte_under : Volume → ℕ → ℕ → Leaf → ℕ
+byte_under v j o leaf = if is_written leaf then slice_index (file_block v j leaf) o else 0
 
 -- the same by these leaf records: by the first one of its cluster, and 0 in a hole
-unfoldable pub byte_in_block : Volume → List ExtentRec → ℕ → ℕ → ℕ
+unfoldable pub byte_in_block : Volume → List Leaf → ℕ → ℕ → ℕ
 byte_in_block v leaves j o = option_map_or (byte_under v j o) (find (maps_cluster (j / per_cluster v)) leaves) 0
 
 -- byte k of the file
-abbrev pub byte_of : Volume → List ExtentRec → ℕ → ℕ
+abbrev pub byte_of : Volume → List Leaf → ℕ → ℕ
 byte_of v leaves k = byte_in_block v leaves (k / block_size v) (k % block_size v)
 
 -- the text of a link that stands in the dinode

@@ -5,9 +5,9 @@ use Rattle.o2_ondisk.specs.Bits.{has_bits, unwritten_extent_flag}
 use Rattle.o2_ondisk.specs.Dinodes.{inline_data_place}
 use Rattle.o2_ondisk.specs.DirEntries.{dir_entry_of}
 use Rattle.o2_ondisk.specs.declared.dir_entry.DirEntry.{DirEntry}
-use Rattle.o2_ondisk.specs.declared.extent_rec.ExtentRec.{ExtentRec}
+use Rattle.o2_model.specs.declared.entry.Entry.{Entry}
+use Rattle.o2_model.specs.declared.leaf.Leaf.{Leaf}
 use Rattle.o2_model.specs.Volume.{Volume, block_size, per_cluster, dinode}
-use Rattle.o2_model.specs.Extents.{leaf_clusters, leaf_flags}
 use Rattle.o2_model.specs.Inodes.{is_inline, leaf_records}
 
 -- ---- the entries that fill some bytes
@@ -71,18 +71,18 @@ pub record DirBlock : Type 0 where
   pub found : Option (List NamedEntry)
 
 -- the clusters of the record are not marked `OCFS2_EXT_UNWRITTEN`
-abbrev pub is_written : ExtentRec → Bool
-is_written r = not (has_bits (leaf_flags r) unwritten_extent_flag)
+abbrev pub is_written : Leaf → Bool
+is_written leaf = not (has_bits leaf.flags unwritten_extent_flag)
 
 -- the k-th block of a run that begins with this place in the directory and this block
 abbrev pub dir_block : Volume → ℕ → ℕ → ℕ → DirBlock
 dir_block v place block k = record { place = place + k; block = block + k; found = entries_in (v.at (block + k)) }
 
 -- the blocks that the record maps, those at places below `limit`
-abbrev pub mapped : Volume → ℕ → ExtentRec → List DirBlock
-mapped v limit r =
-    let first = r.cpos * per_cluster v in
-    map (dir_block v first r.blkno) (filter (λ k. nat_lt (first + k) limit) (range_with_len 0 (leaf_clusters r * per_cluster v)))
+abbrev pub mapped : Volume → ℕ → Leaf → List DirBlock
+mapped v limit leaf =
+    let first = leaf.cpos * per_cluster v in
+    map (dir_block v first leaf.block) (filter (λ k. nat_lt (first + k) limit) (range_with_len 0 (leaf.clusters * per_cluster v)))
 
 -- at most this many bytes fit a dinode (ocfs2_max_inline_data)
 abbrev pub inline_room : Volume → ℕ
@@ -104,21 +104,16 @@ dir_blocks v d =
     else flat_map (mapped v ((dinode v d).size / block_size v)) (filter is_written (leaf_records v d))
 
 -- ---- live entries
--- A live entry, and where it stands.
-pub record Entry : Type 0 where
-  pub inode : ℕ
-  pub file_type : ℕ
-  pub name : List ℕ
-  -- its block, and its byte in the block or among the inline bytes
-  pub block : ℕ
-  pub at : ℕ
+-- the entry as one that stands in this block, from byte `at` of the block or of the inline bytes on
+abbrev pub standing : ℕ → ℕ → NamedEntry → Entry
+standing block at e = record { inode = e.fields.inode; file_type = e.fields.file_type; name = e.name; block = block; at = at }
 
 -- the live ones of the entries that stand in a block from byte `at` on
 abbrev pub live_from : ℕ → ℕ → List NamedEntry → List Entry
 live_from block at [] = []
 live_from block at (e ∷ es) =
     if is_live e
-    then record { inode = e.fields.inode; file_type = e.fields.file_type; name = e.name; block = block; at = at } ∷ live_from block (at + e.fields.rec_len) es
+    then standing block at e ∷ live_from block (at + e.fields.rec_len) es
     else live_from block (at + e.fields.rec_len) es
 
 -- those of a block that its entries fill; any other block has none

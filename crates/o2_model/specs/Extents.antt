@@ -1,5 +1,5 @@
 -- The tree of extents under an extent list.
-use Rattle.std.specs.Prelude.{ℕ, zero, suc, ◌+◌, ◌-◌, ◌/◌, ◌%◌, ◌^◌, Bool, ◌&&◌, not, ◌==◌, nat_lt, nat_le, List, [], ◌∷◌, drop, filter, flat_map, fold, if◌then◌else◌}
+use Rattle.std.specs.Prelude.{ℕ, zero, suc, ◌+◌, ◌-◌, ◌/◌, ◌%◌, ◌^◌, Bool, ◌&&◌, not, ◌==◌, nat_lt, nat_le, List, [], ◌∷◌, drop, map, filter, flat_map, fold, if◌then◌else◌}
 use Rattle.o2_ondisk.specs.ExtentBlocks.{extent_block_of}
 use Rattle.o2_ondisk.specs.ExtentListHeaders.{extent_list_header_of}
 use Rattle.o2_ondisk.specs.ExtentRecs.{extent_rec_of}
@@ -7,6 +7,7 @@ use Rattle.o2_ondisk.specs.Signatures.{extent_block_signature}
 use Rattle.o2_ondisk.specs.declared.extent_block.ExtentBlock.{ExtentBlock}
 use Rattle.o2_ondisk.specs.declared.extent_list_header.ExtentListHeader.{ExtentListHeader}
 use Rattle.o2_ondisk.specs.declared.extent_rec.ExtentRec.{ExtentRec}
+use Rattle.o2_model.specs.declared.leaf.Leaf.{Leaf}
 use Rattle.o2_model.specs.Volume.{Volume, block_size, is_in_range}
 use Rattle.o2_model.specs.Clusters.{are_clusters_in_range}
 use Rattle.o2_model.specs.Words.{table, push, among}
@@ -19,6 +20,10 @@ leaf_clusters r = r.size.0 % 2 ^ 16
 -- how they are kept (e_flags of the same struct)
 abbrev pub leaf_flags : ExtentRec → ℕ
 leaf_flags r = r.size.0 / 2 ^ 24
+
+-- a record of a leaf list, its fields apart
+abbrev pub leaf_of : ExtentRec → Leaf
+leaf_of r = record { cpos = r.cpos; clusters = leaf_clusters r; block = r.blkno; flags = leaf_flags r }
 
 -- a record of a leaf list that has clusters
 abbrev pub has_clusters : ExtentRec → Bool
@@ -51,15 +56,15 @@ most_in_block v = (block_size v - 0x40) / 16
 
 -- ---- leaf records where nothing is wrong
 -- the records with clusters below these ones, of a list of this depth: at depth 0 themselves, above it those below each
-abbrev pub leaves_below : Volume → ℕ → List ExtentRec → List ExtentRec
-leaves_below v zero records = filter has_clusters records
+abbrev pub leaves_below : Volume → ℕ → List ExtentRec → List Leaf
+leaves_below v zero records = map leaf_of (filter has_clusters records)
 leaves_below v (suc depth) records = flat_map (λ r. leaves_below v depth (list_in_block v r.blkno).records) records
 
 -- ---- the reading of a tree where something may be wrong
 -- What was read of a tree so far, in order.
 pub record Extents : Type 0 where
   -- the leaf records with clusters
-  pub leaves : List ExtentRec
+  pub leaves : List Leaf
   -- the extent blocks
   pub blocks : List ℕ
   -- the blocks that were looked at as extent blocks, also those that are none
@@ -71,8 +76,8 @@ pub record Extents : Type 0 where
 abbrev pub nothing_read : Extents
 nothing_read = record { leaves = []; blocks = []; seen = []; faults = [] }
 
-abbrev pub with_leaf : Extents → ExtentRec → Extents
-with_leaf t r = record t { leaves = push t.leaves r }
+abbrev pub with_leaf : Extents → Leaf → Extents
+with_leaf t leaf = record t { leaves = push t.leaves leaf }
 
 abbrev pub with_seen : Extents → ℕ → Extents
 with_seen t b = record t { seen = push t.seen b }
@@ -84,8 +89,8 @@ abbrev pub with_fault : Extents → ℕ → Extents
 with_fault t b = record t { faults = push t.faults b }
 
 -- the cluster of the inode behind the last of these leaf records
-abbrev pub end_of : List ExtentRec → ℕ
-end_of leaves = fold (λ _ r. r.cpos + leaf_clusters r) 0 leaves
+abbrev pub end_of : List Leaf → ℕ
+end_of leaves = fold (λ _ leaf. leaf.cpos + leaf.clusters) 0 leaves
 
 -- l_count fits the room for `most` records, l_next_free_rec fits l_count, and the tree is at most 5 deep
 unfoldable pub is_sound_header : ℕ → ExtentListHeader → Bool
@@ -101,12 +106,12 @@ is_extent_block v depth b =
 
 -- A leaf record after those that end at cluster `low`: it rises and does not overlap them, it ends below 2^32, its clusters
 -- are whole and in range, and its flags are at most these.
-unfoldable pub is_sound_leaf : Volume → ℕ → ℕ → ExtentRec → Bool
-is_sound_leaf v most_flags low r =
-    nat_le low r.cpos
-    && nat_lt (r.cpos + leaf_clusters r) (2 ^ 32)
-    && are_clusters_in_range v r.blkno (leaf_clusters r)
-    && nat_le (leaf_flags r) most_flags
+unfoldable pub is_sound_leaf : Volume → ℕ → ℕ → Leaf → Bool
+is_sound_leaf v most_flags low leaf =
+    nat_le low leaf.cpos
+    && nat_lt (leaf.cpos + leaf.clusters) (2 ^ 32)
+    && are_clusters_in_range v leaf.block leaf.clusters
+    && nat_le leaf.flags most_flags
 
 -- A record of an inner list begins at cluster `low` or later, and names a block in range that was not looked at before.
 unfoldable pub names_new_block : Volume → ℕ → List ℕ → ExtentRec → Bool
@@ -126,7 +131,7 @@ abbrev pub read_records : Volume → ℕ → ℕ → ℕ → ℕ → List Extent
 read_records v most_flags depth holder low [] t = t
 read_records v most_flags zero holder low (r ∷ rs) t =
     if leaf_clusters r == 0 then read_records v most_flags zero holder low rs t
-    else if is_sound_leaf v most_flags (end_of t.leaves) r then read_records v most_flags zero holder low rs (with_leaf t r)
+    else if is_sound_leaf v most_flags (end_of t.leaves) (leaf_of r) then read_records v most_flags zero holder low rs (with_leaf t (leaf_of r))
     else with_fault t holder
 read_records v most_flags (suc depth) holder low (r ∷ rs) t =
     if not (names_new_block v low t.seen r) then with_fault t holder

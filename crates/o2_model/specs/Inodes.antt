@@ -4,9 +4,9 @@ use Rattle.o2_ondisk.specs.Bits.{has_bits, inline_data_dyn_feature, local_alloc_
 use Rattle.o2_ondisk.specs.Dinodes.{last_part_place, list_records_place}
 use Rattle.o2_ondisk.specs.Kinds.{kind_of_mode}
 use Rattle.o2_ondisk.specs.declared.dinode.Dinode.{Dinode}
-use Rattle.o2_ondisk.specs.declared.extent_rec.ExtentRec.{ExtentRec}
 use Rattle.o2_ondisk.specs.declared.kind.Kind.{Kind}
 use Rattle.o2_ondisk.specs.declared.kind.Kind.TheVariants.{File, Directory, Character, Block, Fifo, Socket, Link}
+use Rattle.o2_model.specs.declared.leaf.Leaf.{Leaf}
 use Rattle.o2_model.specs.Volume.{Volume, block_size, dinode}
 use Rattle.o2_model.specs.Extents.{Extents, nothing_read, read_list}
 
@@ -85,7 +85,7 @@ unfoldable pub extents : Volume → ℕ → Extents
 extents v b = if has_list v b then read_list v (most_flags v b) b last_part_place (most_in_dinode v) else nothing_read
 
 -- the leaf records of the dinode's own list, without those of 0 clusters
-abbrev pub leaf_records : Volume → ℕ → List ExtentRec
+abbrev pub leaf_records : Volume → ℕ → List Leaf
 leaf_records v b = (extents v b).leaves
 
 -- All extent lists of an inode, each as it is read: its own, where it has one. Whatever speaks of an inode's lists does so
@@ -94,7 +94,7 @@ unfoldable pub extent_lists_of : Volume → ℕ → List Extents
 extent_lists_of v b = if has_list v b then extents v b ∷ [] else []
 
 -- the leaf records of all of them, list by list
-abbrev pub records_of : Volume → ℕ → List ExtentRec
+abbrev pub records_of : Volume → ℕ → List Leaf
 records_of v b = flat_map (λ t. t.leaves) (extent_lists_of v b)
 
 -- the extent blocks of all of them

@@ -12,7 +12,7 @@ use Rattle.o2_ondisk.specs.declared.refcount_rec.RefcountRec.{RefcountRec}
 use Rattle.o2_model.specs.Words.{table, push}
 use Rattle.o2_model.specs.Orders.{rising}
 use Rattle.o2_model.specs.Volume.{Volume, block_size, is_in_range, dinode}
-use Rattle.o2_model.specs.Extents.{Extents, leaf_clusters, nothing_read, with_leaf, with_seen, with_fault, with_met, names_new_block, is_extent_block, is_sound_header, records_in_block, extent_list}
+use Rattle.o2_model.specs.Extents.{Extents, leaf_clusters, leaf_of, nothing_read, with_leaf, with_seen, with_fault, with_met, names_new_block, is_extent_block, is_sound_header, records_in_block, extent_list}
 use Rattle.o2_model.specs.Groups.{inodes_of}
 
 -- ---- trees and their inodes
@@ -54,7 +54,7 @@ most_in_refcount_block v = (block_size v - 0x90) / 16
 abbrev pub read_block_names : Volume → ℕ → ℕ → ℕ → List ExtentRec → Extents → Extents
 read_block_names v depth holder low [] t = t
 read_block_names v zero holder low (r ∷ rs) t =
-    read_block_names v zero holder low rs (if leaf_clusters r == 0 then t else with_leaf t r)
+    read_block_names v zero holder low rs (if leaf_clusters r == 0 then t else with_leaf t (leaf_of r))
 read_block_names v (suc depth) holder low (r ∷ rs) t =
     if not (names_new_block v low t.seen r) then with_fault t holder
     else if is_extent_block v depth r.blkno
@@ -75,7 +75,7 @@ leaf_list v root = if has_leaf_blocks v root then read_leaf_list v root else not
 
 -- the blocks that the list names as leaves
 abbrev pub refcount_leaves : Volume → ℕ → List ℕ
-refcount_leaves v root = map (λ r. r.blkno) (leaf_list v root).leaves
+refcount_leaves v root = map (λ leaf. leaf.block) (leaf_list v root).leaves
 
 -- the blocks of the tree: its root, the extent blocks of its list, and its leaves
 unfoldable pub refcount_tree_blocks : Volume → ℕ → List ℕ

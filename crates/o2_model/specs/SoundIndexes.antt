@@ -8,7 +8,8 @@ use Rattle.o2_ondisk.specs.declared.dx_entry.DxEntry.{DxEntry}
 use Rattle.o2_model.specs.Orders.{is_none_of}
 use Rattle.o2_model.specs.Volume.{Volume}
 use Rattle.o2_model.specs.Inodes.{is_inline}
-use Rattle.o2_model.specs.Directories.{DirBlock, Entry, dir_blocks, directory_entries, inline_bytes}
+use Rattle.o2_model.specs.declared.entry.Entry.{Entry}
+use Rattle.o2_model.specs.Directories.{DirBlock, dir_blocks, directory_entries, inline_bytes}
 use Rattle.o2_model.specs.Allocators.{are_metadata}
 use Rattle.o2_model.specs.Files.{times_in}
 use Rattle.o2_model.specs.Metadata.{Origin, extent_block_origin, has_slot_and_bit, group_with_bit, metadata_blocks}

@@ -10,7 +10,8 @@ use Rattle.o2_model.specs.Words.{among, push}
 use Rattle.o2_model.specs.Orders.{rising}
 use Rattle.o2_model.specs.Volume.{Volume, blocks, dinode}
 use Rattle.o2_model.specs.Inodes.{is_directory}
-use Rattle.o2_model.specs.Directories.{Entry, directory_entries, named_entries, own_inodes}
+use Rattle.o2_model.specs.declared.entry.Entry.{Entry}
+use Rattle.o2_model.specs.Directories.{directory_entries, named_entries, own_inodes}
 use Rattle.o2_model.specs.Groups.{is_inode}
 
 -- the entry names an inode of the users: one without SYSTEM that is not the volume's own

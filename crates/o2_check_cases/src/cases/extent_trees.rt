@@ -3,15 +3,15 @@ ghost use Rattle.std.specs.Prelude.{◌≡◌, [], ◌∷◌};
 ghost use Rattle.o2_model.specs.declared.check.Check.TheVariants as check;
 ghost use Rattle.o2_model.specs.Failing.{failing};
 ghost use Rattle.o2_model.specs.Inodes.{extent_blocks_of, records_of};
-ghost use Rattle.o2_cases_volumes.specs.SmallFiles.{record_of};
+ghost use Rattle.o2_cases_volumes.specs.SmallFiles.{leaf_at, record_of};
 ghost use Rattle.o2_cases_volumes.specs.WholeVolume.{volume_with, with_number_at};
 ghost use Rattle.o2_cases_volumes.specs.OtherVolumes.{changed, deep_blocks, extent_block_at, in_place_of, two_leaf_blocks};
 
 /// A law: the records are those of the leaf blocks, in order.
 pub fn records_of_trees()
-    ensures two_leaves { records_of (volume_with two_leaf_blocks) 29 ≡ record_of 0 1 0 80 ∷ record_of 2 1 0 104 ∷ [] }
+    ensures two_leaves { records_of (volume_with two_leaf_blocks) 29 ≡ leaf_at 0 1 0 80 ∷ leaf_at 2 1 0 104 ∷ [] }
     ensures leaf_blocks { extent_blocks_of (volume_with two_leaf_blocks) 29 ≡ 41 ∷ 44 ∷ [] }
-    ensures deep { records_of (volume_with deep_blocks) 29 ≡ record_of 0 1 0 80 ∷ record_of 2 1 0 104 ∷ [] }
+    ensures deep { records_of (volume_with deep_blocks) 29 ≡ leaf_at 0 1 0 80 ∷ leaf_at 2 1 0 104 ∷ [] }
     ensures inner_block { extent_blocks_of (volume_with deep_blocks) 29 ≡ 44 ∷ 41 ∷ [] }
 {}
 
@@ -31,7 +31,7 @@ pub fn wrong_inner_records()
 pub fn wrong_leaf_blocks()
     ensures overlap { failing (changed two_leaf_blocks 44 0x40 4 0) ≡ (check.Extent, 44) ∷ (check.InodeClusters, 29) ∷ (check.ClusterAllocBit, 8) ∷ [] }
     ensures head { failing (changed two_leaf_blocks 41 0x32 2 29) ≡ (check.Extent, 41) ∷ (check.InodeClusters, 29) ∷ (check.ClusterAllocBit, 8) ∷ [] }
-    ensures read_behind { records_of (changed two_leaf_blocks 41 0x32 2 29) 29 ≡ record_of 2 1 0 104 ∷ [] }
+    ensures read_behind { records_of (changed two_leaf_blocks 41 0x32 2 29) 29 ≡ leaf_at 2 1 0 104 ∷ [] }
     ensures no_next { failing (changed two_leaf_blocks 41 0x28 8 0) ≡ (check.EbNext, 41) ∷ [] }
     ensures next_of_last { failing (changed two_leaf_blocks 44 0x28 8 41) ≡ (check.EbNext, 44) ∷ [] }
     ensures last { failing (changed two_leaf_blocks 29 0x58 8 41) ≡ (check.LastEb, 29) ∷ [] }

@@ -6,14 +6,13 @@ use Rattle.std.proofs.lemmas.Bool.{cases_Bool, and_from, and_parts, eq-eqb, eqb-
 use Rattle.std.proofs.lemmas.Bool.Decides.{nat_tests}
 use Rattle.std.proofs.lemmas.Nat.{pow_pos}
 use Rattle.std.proofs.Math.Nat.{mul-div_cancel, mul-mod_left}
-use Rattle.o2_ondisk.specs.declared.extent_rec.ExtentRec.{ExtentRec}
+use Rattle.o2_model.specs.declared.leaf.Leaf.{Leaf}
 use Rattle.o2_model.specs.declared.claim.Claim.{Claim}
 use Rattle.o2_model.specs.declared.claim.Owner.{Owner}
 use Rattle.o2_model.specs.declared.claim.Owner.TheVariants.{Inode}
 use Rattle.o2_model.specs.Words.{among}
 use Rattle.o2_model.specs.Volume.{Volume, blocks, per_cluster, is_valid}
 use Rattle.o2_model.specs.Clusters.{cluster_of}
-use Rattle.o2_model.specs.Extents.{leaf_clusters}
 use Rattle.o2_model.specs.Inodes.{leaf_records, is_inline}
 use Rattle.o2_model.specs.LeafRecords.{clusters_under, blocks_under}
 use Rattle.o2_model.specs.Directories.{dir_block, mapped, is_written, dir_blocks}
@@ -60,25 +59,25 @@ mapped_held v i b is apart h = mapped_claimed (holds_bytes v) v i b is (not_from
 
 -- ---- records
 -- the cluster of a block under a record is under it
-under_cluster : (v : Volume) (r : ExtentRec) (b : ℕ) → BeginsCluster v r → Contains (blocks_under v r) b → list_any (λ c. c == cluster_of v b) (clusters_under v r) ≡ true
+under_cluster : (v : Volume) (r : Leaf) (b : ℕ) → BeginsCluster v r → Contains (blocks_under v r) b → list_any (λ c. c == cluster_of v b) (clusters_under v r) ≡ true
 under_cluster v r b begins is =
-    let n = leaf_clusters r in
+    let n = r.clusters in
     let per = per_cluster v in
     let some : 0 < per = pow_pos (v.geo.cluster_bits - v.geo.block_bits) in
-    let within = range_bounds r.blkno (n * per) b is in
-    let k = b - r.blkno in
-    let place : r.blkno + k ≡ b = omega (arith, within.0) in
-    let inside = cluster_in per r.blkno (n * per) k some begins (mul-mod_left n per) (omega (arith, within.0, within.1)) in
-    let low : cluster_of v r.blkno ≤ cluster_of v b = subst (λ x. r.blkno / per ≤ x / per) place inside.0 in
-    let high : cluster_of v b < cluster_of v r.blkno + n = subst (λ x. x / per < r.blkno / per + n) place (subst (λ m. (r.blkno + k) / per < r.blkno / per + m) (mul-div_cancel n some) inside.1) in
-    any_range (λ c. c == cluster_of v b) (cluster_of v r.blkno) n (cluster_of v b) low high (eq-eqb (cluster_of v b) (cluster_of v b) refl)
+    let within = range_bounds r.block (n * per) b is in
+    let k = b - r.block in
+    let place : r.block + k ≡ b = omega (arith, within.0) in
+    let inside = cluster_in per r.block (n * per) k some begins (mul-mod_left n per) (omega (arith, within.0, within.1)) in
+    let low : cluster_of v r.block ≤ cluster_of v b = subst (λ x. r.block / per ≤ x / per) place inside.0 in
+    let high : cluster_of v b < cluster_of v r.block + n = subst (λ x. x / per < r.block / per + n) place (subst (λ m. (r.block + k) / per < r.block / per + m) (mul-div_cancel n some) inside.1) in
+    any_range (λ c. c == cluster_of v b) (cluster_of v r.block) n (cluster_of v b) low high (eq-eqb (cluster_of v b) (cluster_of v b) refl)
 
 -- the blocks of an inode's clusters
 abbrev pub data_blocks : Volume → ℕ → List ℕ
 data_blocks v i = flat_map (blocks_under v) (leaf_records v i)
 
 -- the cluster of a block under some records is under them
-pub under_records : (v : Volume) (b : ℕ) (rs : List ExtentRec) → AllByRecursion (BeginsCluster v) rs → among (flat_map (blocks_under v) rs) b ≡ true → list_any (λ c. c == cluster_of v b) (flat_map (clusters_under v) rs) ≡ true
+pub under_records : (v : Volume) (b : ℕ) (rs : List Leaf) → AllByRecursion (BeginsCluster v) rs → among (flat_map (blocks_under v) rs) b ≡ true → list_any (λ c. c == cluster_of v b) (flat_map (clusters_under v) rs) ≡ true
 under_records v b rs all h =
     let r = passing (λ r. among (blocks_under v r) b) rs (sym (any_flat (λ m. b == m) (blocks_under v) rs) ∙ h) in
     any_flat (λ c. c == cluster_of v b) (clusters_under v) rs
@@ -92,7 +91,7 @@ pub data_held : (v : Volume) (i b : ℕ) → is_inode v i ≡ true → among (jo
 data_held v i b is apart h = mapped_held v i b is apart (data_mapped v i b h)
 
 -- ---- some of these blocks
-written_among : (v : Volume) (b : ℕ) (rs : List ExtentRec) → among (flat_map (blocks_under v) (filter is_written rs)) b ≡ true → among (flat_map (blocks_under v) rs) b ≡ true
+written_among : (v : Volume) (b : ℕ) (rs : List Leaf) → among (flat_map (blocks_under v) (filter is_written rs)) b ≡ true → among (flat_map (blocks_under v) rs) b ≡ true
 written_among v b rs h =
     let r = passing (λ r. is_written r && among (blocks_under v r) b) rs
     (sym (any_filter (λ r. among (blocks_under v r) b) is_written rs) ∙ (sym (any_flat (λ m. b == m) (blocks_under v) (filter is_written rs)) ∙ h)) in
@@ -101,18 +100,18 @@ written_among v b rs h =
 pub content_held : (v : Volume) (i b : ℕ) → is_inode v i ≡ true → among (journals v) i ≡ false → among (content_blocks v i) b ≡ true → is_held v b ≡ true
 content_held v i b is apart h = data_held v i b is apart (written_among v b (leaf_records v i) h)
 
-mapped_among : (v : Volume) (limit b : ℕ) (r : ExtentRec) → list_any (λ x. b == x.block) (mapped v limit r) ≡ true → among (blocks_under v r) b ≡ true
+mapped_among : (v : Volume) (limit b : ℕ) (r : Leaf) → list_any (λ x. b == x.block) (mapped v limit r) ≡ true → among (blocks_under v r) b ≡ true
 mapped_among v limit b r h =
     let first = r.cpos * per_cluster v in
-    let n = leaf_clusters r * per_cluster v in
+    let n = r.clusters * per_cluster v in
     let below = λ (k : ℕ). nat_lt (first + k) limit in
-    let k = passing (λ k. below k && b == r.blkno + k) (range_with_len 0 n)
-    (sym (any_filter (λ k. b == r.blkno + k) below (range_with_len 0 n)) ∙ (sym (any_map (λ x. b == x.block) (dir_block v first r.blkno) (filter below (range_with_len 0 n))) ∙ h)) in
-    let at : b ≡ r.blkno + k.item = eqb-true b (r.blkno + k.item) (and_parts (below k.item) (b == r.blkno + k.item) k.passes).1 in
+    let k = passing (λ k. below k && b == r.block + k) (range_with_len 0 n)
+    (sym (any_filter (λ k. b == r.block + k) below (range_with_len 0 n)) ∙ (sym (any_map (λ x. b == x.block) (dir_block v first r.block) (filter below (range_with_len 0 n))) ∙ h)) in
+    let at : b ≡ r.block + k.item = eqb-true b (r.block + k.item) (and_parts (below k.item) (b == r.block + k.item) k.passes).1 in
     let within = range_bounds 0 n k.item k.inside in
-    any_range (λ m. b == m) r.blkno n b (omega (arith, at)) (omega (arith, at, within.1)) (eq-eqb b b refl)
+    any_range (λ m. b == m) r.block n b (omega (arith, at)) (omega (arith, at, within.1)) (eq-eqb b b refl)
 
-runs_among : (v : Volume) (limit b : ℕ) (rs : List ExtentRec) → among (map (λ x. x.block) (flat_map (mapped v limit) rs)) b ≡ true → among (flat_map (blocks_under v) rs) b ≡ true
+runs_among : (v : Volume) (limit b : ℕ) (rs : List Leaf) → among (map (λ x. x.block) (flat_map (mapped v limit) rs)) b ≡ true → among (flat_map (blocks_under v) rs) b ≡ true
 runs_among v limit b rs h =
     let r = passing (λ r. list_any (λ x. b == x.block) (mapped v limit r)) rs
     (sym (any_flat (λ x. b == x.block) (mapped v limit) rs) ∙ (sym (any_map (λ m. b == m) (λ x. x.block) (flat_map (mapped v limit) rs)) ∙ h)) in

@@ -10,7 +10,8 @@ use Rattle.o2_model.specs.Words.{among, push}
 use Rattle.o2_model.specs.Orders.{rising}
 use Rattle.o2_model.specs.Volume.{Volume, over, blocks}
 use Rattle.o2_model.specs.Inodes.{is_directory}
-use Rattle.o2_model.specs.Directories.{Entry, own_inodes}
+use Rattle.o2_model.specs.declared.entry.Entry.{Entry}
+use Rattle.o2_model.specs.Directories.{own_inodes}
 use Rattle.o2_model.specs.Files.{File, file_of, files_of}
 use Rattle.o2_model.specs.Groups.{is_inode}
 use Rattle.o2_model.specs.Journals.{journals}

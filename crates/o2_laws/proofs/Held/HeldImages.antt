@@ -15,7 +15,8 @@ use Rattle.o2_model.specs.Failing.{faults, failing}
 use Rattle.o2_laws.proofs.Held.HeldBlocks.{is_held}
 use Rattle.o2_laws.proofs.Held.HeldBlocks.{AgreesOnHeld}
 use Rattle.o2_laws.proofs.NothingFails.{no_check_fails}
-use Rattle.o2_laws.proofs.Failing.{volume_of-over, holds_unless}
+use Rattle.o2_model.proofs.Faults.{holds_unless}
+use Rattle.o2_laws.proofs.Failing.{volume_of-over}
 use Rattle.o2_laws.proofs.Held.GroupsHeld.{first_held}
 use Rattle.o2_laws.proofs.Held.HeldTree.{held_tell_tree}
 use Rattle.o2_laws.proofs.Held.HeldFiles.{held_tell_files}

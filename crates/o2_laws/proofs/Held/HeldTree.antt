@@ -4,7 +4,8 @@ use Rattle.std.specs.Prelude.{filter, flat_map}
 use Rattle.std.specs.List.{AllByRecursion, Contains}
 use Rattle.std.proofs.lemmas.List.Elements.{filter_agree}
 use Rattle.o2_model.specs.Volume.{Volume, over, blocks}
-use Rattle.o2_model.specs.Directories.{Entry, directory_entries, named_entries}
+use Rattle.o2_model.specs.declared.entry.Entry.{Entry}
+use Rattle.o2_model.specs.Directories.{directory_entries, named_entries}
 use Rattle.o2_model.specs.Tree.{TreeWalk, names_users, followed, tree_walk, tree_directories, tree_entries}
 use Rattle.o2_model.specs.Failing.{failing}
 use Rattle.o2_laws.proofs.Held.HeldBlocks.{AgreesOnHeld}

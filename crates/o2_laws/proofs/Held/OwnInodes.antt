@@ -15,7 +15,8 @@ use Rattle.o2_model.specs.Words.{among}
 use Rattle.o2_model.specs.Faults.{fails_unless, fails_at}
 use Rattle.o2_model.specs.Volume.{Volume, is_valid}
 use Rattle.o2_model.specs.Inodes.{kind, is_directory, is_directory_kind, is_file, is_file_kind}
-use Rattle.o2_model.specs.Directories.{Entry, directory_entries, is_dot, is_named, first_named, own_inodes}
+use Rattle.o2_model.specs.declared.entry.Entry.{Entry}
+use Rattle.o2_model.specs.Directories.{directory_entries, is_dot, is_named, first_named, own_inodes}
 use Rattle.o2_model.specs.SystemFiles.{system_name, slot_in_name, system_inode, slots}
 use Rattle.o2_model.specs.Journals.{named_journal, journals}
 use Rattle.o2_model.specs.Groups.{has_inode_bit, is_inode}
@@ -25,7 +26,8 @@ use Rattle.o2_model.specs.Checks.Sysfile.{has_system_files, is_name_of_slot, has
 use Rattle.o2_model.specs.Failing.{faults, failing}
 use Rattle.o2_laws.proofs.NothingFails.{no_check_fails}
 use Rattle.o2_laws.proofs.SlotNames.{slot_only, slot_told_by_digits}
-use Rattle.o2_laws.proofs.Failing.{none_fails, holds_unless}
+use Rattle.o2_model.proofs.Faults.{holds_unless}
+use Rattle.o2_laws.proofs.Failing.{none_fails}
 use Rattle.o2_laws.proofs.Found.{append_nothing, found, any_map, any_filter, passing, any_flat, find_passing, each_of, mapped_some}
 use Rattle.o2_laws.proofs.Members.{among_one}
 

@@ -5,7 +5,7 @@ use Rattle.o2_ondisk.specs.declared.extent_rec.ExtentRec.{ExtentRec}
 use Rattle.o2_model.specs.Words.{among, push}
 use Rattle.o2_model.specs.Volume.{Volume, over}
 use Rattle.o2_laws.specs.Frames.{SameOn}
-use Rattle.o2_model.specs.Extents.{Extents, leaf_clusters, list_in_block, with_leaf, with_seen, is_sound_header, is_extent_block, names_new_block, most_in_block, with_met, records_in_block, nothing_read, extent_list}
+use Rattle.o2_model.specs.Extents.{Extents, leaf_clusters, leaf_of, list_in_block, with_leaf, with_seen, is_sound_header, is_extent_block, names_new_block, most_in_block, with_met, records_in_block, nothing_read, extent_list}
 use Rattle.o2_model.specs.RefcountTrees.{is_refcount_block, has_leaf_blocks, most_in_refcount_block, read_block_names, leaf_list}
 use Rattle.o2_laws.proofs.Readings.{Grows, grows_none, grows_both, grows_leaf, grows_seen, grows_fault, grows_cond, grows_met, push_some, among_last, same_new, same_block, same_met, same_records, same_on_before}
 use Rattle.o2_model.proofs.Readings.{met_seen}
@@ -14,7 +14,7 @@ use Rattle.o2_model.proofs.Readings.{met_seen}
 names_grow : (v : Volume) (depth holder low : ℕ) (rs : List ExtentRec) (t : Extents) → Grows t (read_block_names v depth holder low rs t)
 names_grow v depth holder low [] t = grows_none t
 names_grow v zero holder low (r ∷ rs) t =
-    grows_both (grows_cond (leaf_clusters r == 0) t t (with_leaf t r) (grows_none t) (grows_leaf t r)) (names_grow v zero holder low rs _)
+    grows_both (grows_cond (leaf_clusters r == 0) t t (with_leaf t (leaf_of r)) (grows_none t) (grows_leaf t (leaf_of r))) (names_grow v zero holder low rs _)
 names_grow v (suc depth) holder low (r ∷ rs) t =
     let t' = with_seen t r.blkno in
     grows_cond (not (names_new_block v low t.seen r)) t _ _
@@ -96,7 +96,7 @@ sees_met v t b h = elim (cases_Bool (is_sound_header (most_in_block v) (list_in_
   | inr bad ↦ rw bad (record { seen = λ none. absurd (push_some t.faults b none) })
 ]
 
-sees_name : (t : Extents) (r : ExtentRec) → SeesBlocks t → SeesBlocks (cond (leaf_clusters r == 0) t (with_leaf t r))
+sees_name : (t : Extents) (r : ExtentRec) → SeesBlocks t → SeesBlocks (cond (leaf_clusters r == 0) t (with_leaf t (leaf_of r)))
 sees_name t r h = elim (cases_Bool (leaf_clusters r == 0)) [
   | inl empty ↦ rw empty h
   | inr some ↦ rw some (record { seen = h.seen })

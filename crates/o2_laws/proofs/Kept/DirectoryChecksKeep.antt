@@ -7,7 +7,8 @@ use Rattle.o2_model.specs.Faults.{fails_at}
 use Rattle.o2_model.specs.Orders.{later_like}
 use Rattle.o2_model.specs.Volume.{Volume, over}
 use Rattle.o2_model.specs.Inodes.{is_directory}
-use Rattle.o2_model.specs.Directories.{DirBlock, Entry}
+use Rattle.o2_model.specs.declared.entry.Entry.{Entry}
+use Rattle.o2_model.specs.Directories.{DirBlock}
 use Rattle.o2_model.specs.Groups.{inodes_of}
 use Rattle.o2_model.specs.Checks.DirBlock.{is_sound_dir_block, dir_block_faults}
 use Rattle.o2_model.specs.Checks.DirentName.{is_sound_name, dirent_name_faults}

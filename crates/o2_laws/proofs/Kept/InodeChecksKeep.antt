@@ -10,7 +10,8 @@ use Rattle.o2_model.specs.declared.check.Check.TheVariants as check
 use Rattle.o2_model.specs.declared.allocator.Allocator.{Allocator}
 use Rattle.o2_model.specs.Faults.{fails_unless}
 use Rattle.o2_model.specs.Volume.{Volume, over, per_cluster}
-use Rattle.o2_model.specs.Extents.{Extents, leaf_clusters}
+use Rattle.o2_model.specs.Extents.{Extents}
+use Rattle.o2_model.specs.LeafRecords.{clusters_in}
 use Rattle.o2_model.specs.Inodes.{kind, is_directory, is_directory_kind, is_inline, extents, leaf_records}
 use Rattle.o2_model.specs.Directories.{dir_blocks, own_inodes}
 use Rattle.o2_model.specs.Allocators.{are_clusters, allocators}
@@ -97,10 +98,10 @@ allocator_at b more = find (λ a. a.block == b) more
 cluster_total_same : (v : Volume) (at : ℕ → List ℕ) (b : ℕ) → failing v ≡ [] → AgreesOnHeld v at → is_inode v b ≡ true → cluster_total (over v at) b ≡ cluster_total v b
 unfolding cluster_total
 cluster_total_same v at b none agrees is =
-    let total = λ (u : Volume) (more : List Allocator) (t : Extents). option_map_or (allocator_clusters u) (allocator_at b more) (sum_by leaf_clusters t.leaves) in
+    let total = λ (u : Volume) (more : List Allocator) (t : Extents). option_map_or (allocator_clusters u) (allocator_at b more) (clusters_in t.leaves) in
     ap (λ more. total (over v at) more (extents (over v at) b)) (allocators_same v at (held_tell_system_files v at none agrees))
     ∙ (ap (total (over v at) (allocators v)) (held_tell_extents v at b none agrees is)
-    ∙ option_agree (allocator_clusters (over v at)) (allocator_clusters v) (allocator_at b (allocators v)) (sum_by leaf_clusters (leaf_records v b))
+    ∙ option_agree (allocator_clusters (over v at)) (allocator_clusters v) (allocator_at b (allocators v)) (clusters_in (leaf_records v b))
     (λ a found. group_total_same v at a (held_tell_groups v at none agrees)))
 
 has_total_same : (v : Volume) (at : ℕ → List ℕ) (b : ℕ) → at b ≡ v.at b → cluster_total (over v at) b ≡ cluster_total v b → has_cluster_total (over v at) b ≡ has_cluster_total v b

@@ -3,11 +3,10 @@ use Rattle.std.proofs.Common.{◌≡◌, ⊎_elim, ℕ, Bool, true, false, ◌&&
 use Rattle.std.specs.Prelude.{flat_map, slice_get}
 use Rattle.std.specs.List.{list_any, list_all, Contains}
 use Rattle.std.proofs.lemmas.Bool.{and_from, and_parts, or_cases, eq-eqb, eqb-true, not_from_false, false≢true, not-true, or_left}
-use Rattle.o2_ondisk.specs.declared.extent_rec.ExtentRec.{ExtentRec}
+use Rattle.o2_model.specs.declared.leaf.Leaf.{Leaf}
 use Rattle.o2_model.specs.declared.check.Check.TheVariants as check
 use Rattle.o2_model.specs.Words.{among}
 use Rattle.o2_model.specs.Volume.{Volume}
-use Rattle.o2_model.specs.Extents.{leaf_flags}
 use Rattle.o2_model.specs.Inodes.{records_of, leaf_records}
 use Rattle.o2_model.specs.LeafRecords.{clusters_under, is_refcounted}
 use Rattle.o2_model.specs.Groups.{is_inode, inodes_of}
@@ -29,7 +28,7 @@ use Rattle.o2_model.specs.Clusters.{cluster_of}
 
 -- ---- uses
 -- an inode that maps the cluster has a use of it that passes what all its uses of it pass
-used_by : (v : Volume) (i c : ℕ) (q : ClusterUse → Bool) → ((r : ExtentRec) → Contains (records_of v i) r → q (record { inode = i; cluster = c; is_shared = is_refcounted r }) ≡ true)
+used_by : (v : Volume) (i c : ℕ) (q : ClusterUse → Bool) → ((r : Leaf) → Contains (records_of v i) r → q (record { inode = i; cluster = c; is_shared = is_refcounted r }) ≡ true)
     → list_any (λ n. n == c) (clusters_of v i) ≡ true → list_any q (uses_by v i) ≡ true
 unfolding uses_by
 used_by v i c q passes h =
@@ -79,10 +78,10 @@ pub record IsApart (v : Volume) (j c : ℕ) : Type 0 where
   pub structures : is_claimed (structure_claims v) c ≡ false
   pub inodes : (i : ℕ) → is_inode v i ≡ true → list_any (λ n. n == c) (clusters_of v i) ≡ true → i ≡ j
 
-plain_record : (v : Volume) (j : ℕ) (r : ExtentRec) → failing v ≡ [] → among (journals v) j ≡ true → Contains (records_of v j) r → is_refcounted r ≡ false
+plain_record : (v : Volume) (j : ℕ) (r : Leaf) → failing v ≡ [] → among (journals v) j ≡ true → Contains (records_of v j) r → is_refcounted r ≡ false
 plain_record v j r none journal is =
-    let flags : leaf_flags r ≡ 0
-    = eqb-true (leaf_flags r) 0 (passes_of_all (λ r. leaf_flags r == 0) (leaf_records v j) r (journal_holds v j none journal).plain (subst (λ rs. Contains rs r) (records_are v j) is)) in
+    let flags : r.flags ≡ 0
+    = eqb-true r.flags 0 (passes_of_all (λ r. r.flags == 0) (leaf_records v j) r (journal_holds v j none journal).plain (subst (λ rs. Contains rs r) (records_are v j) is)) in
     rw flags refl
 
 not_both : (a b : Bool) → (not a && b) ≡ true → (a ≡ false) × (b ≡ true)

@@ -1,7 +1,7 @@
 -- Where nothing fails, blocks that agree on the held ones have the same journals: their names and extents, the slots that are dirty,
 -- and, where their superblocks are sound, the checks of them.
 use Rattle.std.proofs.Common.{◌≡◌, inl, inr, ℕ, Bool, true, false, not, ◌==◌, List, [], ◌∷◌, refl, sym, ◌∙◌, ap, Option, Some, None, arith}
-use Rattle.std.specs.Prelude.{flat_map, map, sum_by, option_and_then}
+use Rattle.std.specs.Prelude.{flat_map, map, option_and_then}
 use Rattle.std.specs.List.{Contains}
 use Rattle.std.specs.Option.{option_map_or}
 use Rattle.std.proofs.lemmas.Bool.{cases_Bool, eq-eqb}
@@ -11,9 +11,8 @@ use Rattle.o2_model.specs.declared.system_file.SystemFile.TheVariants.{OfSlot}
 use Rattle.o2_model.specs.Words.{among}
 use Rattle.o2_model.specs.Faults.{fails_at}
 use Rattle.o2_model.specs.Volume.{Volume, over, is_valid}
-use Rattle.o2_model.specs.Extents.{leaf_clusters}
 use Rattle.o2_model.specs.Inodes.{extents, leaf_records}
-use Rattle.o2_model.specs.LeafRecords.{blocks_under, have_no_flags}
+use Rattle.o2_model.specs.LeafRecords.{blocks_under, clusters_in, have_no_flags}
 use Rattle.o2_model.specs.SystemFiles.{slots}
 use Rattle.o2_model.specs.Journals.{named_journal, journals, is_dirty, journal_blocks, is_sound_journal_super, has_known_features}
 use Rattle.o2_model.specs.Groups.{is_inode}
@@ -133,9 +132,9 @@ held_tell_dirty v at none agrees = filter_agree_on (is_dirty_slot (over v at)) (
 -- ---- their lengths
 length_same : (v : Volume) (at : ℕ → List ℕ) (slot : ℕ) → failing v ≡ [] → AgreesOnHeld v at → journal_length (over v at) slot ≡ journal_length v slot
 length_same v at slot none agrees =
-    ap (λ o. option_map_or (λ b. sum_by leaf_clusters (leaf_records (over v at) b)) o 0) (named_same v at slot none agrees)
-    ∙ option_agree (λ b. sum_by leaf_clusters (leaf_records (over v at) b)) (λ b. sum_by leaf_clusters (leaf_records v b)) (named_journal v slot) 0
-    (λ b named. ap (λ t. sum_by leaf_clusters t.leaves) (held_tell_extents v at b none agrees (named_is_inode v slot b none named)))
+    ap (λ o. option_map_or (λ b. clusters_in (leaf_records (over v at) b)) o 0) (named_same v at slot none agrees)
+    ∙ option_agree (λ b. clusters_in (leaf_records (over v at) b)) (λ b. clusters_in (leaf_records v b)) (named_journal v slot) 0
+    (λ b named. ap (λ t. clusters_in t.leaves) (held_tell_extents v at b none agrees (named_is_inode v slot b none named)))
 
 pub held_tell_journal_lengths : (v : Volume) (at : ℕ → List ℕ) → failing v ≡ [] → AgreesOnHeld v at → map (journal_length (over v at)) (slots v) ≡ map (journal_length v) (slots v)
 held_tell_journal_lengths v at none agrees = map_agree (journal_length (over v at)) (journal_length v) (slots v) (λ slot is. length_same v at slot none agrees)

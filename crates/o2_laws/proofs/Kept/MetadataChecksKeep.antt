@@ -75,7 +75,7 @@ roots_and_leaves_same : (v : Volume) (at : ℕ → List ℕ) → failing v ≡ [
 roots_and_leaves_same v at none agrees =
     ap (λ roots. roots ++ flat_map (refcount_leaves (over v at)) roots) (held_tell_roots v at none agrees)
     ∙ ap (λ bs. refcount_roots v ++ bs) (flat_map_agree (refcount_leaves (over v at)) (refcount_leaves v) (refcount_roots v)
-    (λ root is. ap (λ t. map (λ r. r.blkno) t.leaves) (held_tell_leaf_list v at root none agrees is)))
+    (λ root is. ap (λ t. map (λ leaf. leaf.block) t.leaves) (held_tell_leaf_list v at root none agrees is)))
 
 root_or_leaf_held : (v : Volume) (b : ℕ) → failing v ≡ [] → Contains (roots_and_leaves v) b → is_held v b ≡ true
 root_or_leaf_held v b none is = elim (Contains-append_cases (refcount_roots v) (flat_map (refcount_leaves v) (refcount_roots v)) b is) [

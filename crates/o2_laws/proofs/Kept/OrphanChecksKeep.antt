@@ -13,7 +13,8 @@ use Rattle.o2_model.specs.Words.{among}
 use Rattle.o2_model.specs.Faults.{fails_at}
 use Rattle.o2_model.specs.Orders.{later_like}
 use Rattle.o2_model.specs.Volume.{Volume, over}
-use Rattle.o2_model.specs.Directories.{Entry, named_entries, own_inodes}
+use Rattle.o2_model.specs.declared.entry.Entry.{Entry}
+use Rattle.o2_model.specs.Directories.{named_entries, own_inodes}
 use Rattle.o2_model.specs.SystemFiles.{system_inode, slots}
 use Rattle.o2_model.specs.Groups.{is_inode, inodes_of}
 use Rattle.o2_model.specs.Tree.{TreeWalk, met_inodes, is_met}

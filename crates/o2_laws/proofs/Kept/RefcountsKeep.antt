@@ -23,7 +23,7 @@ use Rattle.o2_laws.proofs.Agreeing.{fold_agree}
 use Rattle.o2_laws.proofs.Held.BitsHeld.{metadata_held}
 use Rattle.o2_laws.proofs.Held.HeldTells.{each_nothing, metadata_holds}
 use Rattle.o2_laws.proofs.Kept.BlockNames.{refcount_block_same, has_leaf_blocks_same, leaf_list_same, leaf_list_sees_blocks}
-use Rattle.o2_laws.proofs.Failing.{holds_unless}
+use Rattle.o2_model.proofs.Faults.{holds_unless}
 
 -- ---- a tree without fault
 trees_hold : (v : Volume) → failing v ≡ [] → ref_tree_faults v ≡ []
@@ -96,7 +96,7 @@ pub held_tell_tree_blocks : (v : Volume) (at : ℕ → List ℕ) (root : ℕ) �
     → refcount_tree_blocks (over v at) root ≡ refcount_tree_blocks v root
 unfolding refcount_tree_blocks
 held_tell_tree_blocks v at root none agrees is =
-    ap (λ t. root ∷ t.blocks ++ map (λ r. r.blkno) t.leaves) (held_tell_leaf_list v at root none agrees is)
+    ap (λ t. root ∷ t.blocks ++ map (λ leaf. leaf.block) t.leaves) (held_tell_leaf_list v at root none agrees is)
 
 -- ---- records
 sound_refcount_same : (v : Volume) (at : ℕ → List ℕ) (low : ℕ) (r : RefcountRec) → is_sound_refcount (over v at) low r ≡ is_sound_refcount v low r

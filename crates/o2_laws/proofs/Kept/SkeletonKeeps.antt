@@ -11,7 +11,8 @@ use Rattle.o2_model.specs.Faults.{fails_unless, fails_at}
 use Rattle.o2_model.specs.Orders.{later_like, is_none_of}
 use Rattle.o2_model.specs.Volume.{Volume, over, is_valid}
 use Rattle.o2_model.specs.Inodes.{is_directory, is_file, extents, leaf_records}
-use Rattle.o2_model.specs.Directories.{Entry, directory_entries, is_dot}
+use Rattle.o2_model.specs.declared.entry.Entry.{Entry}
+use Rattle.o2_model.specs.Directories.{directory_entries, is_dot}
 use Rattle.o2_model.specs.SystemFiles.{required_files, system_inode}
 use Rattle.o2_model.specs.Groups.{has_inode_bit, is_inode}
 use Rattle.o2_model.specs.Checks.InodeSize.{inode_size_faults}

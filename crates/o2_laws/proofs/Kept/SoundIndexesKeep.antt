@@ -3,7 +3,8 @@ use Rattle.std.proofs.Common.{◌≡◌, ℕ, Bool, ◌&&◌, ◌==◌, List, []
 use Rattle.std.specs.Prelude.{filter}
 use Rattle.std.specs.List.{Contains, list_all}
 use Rattle.o2_model.specs.Volume.{Volume, over}
-use Rattle.o2_model.specs.Directories.{DirBlock, Entry, dir_blocks, directory_entries}
+use Rattle.o2_model.specs.declared.entry.Entry.{Entry}
+use Rattle.o2_model.specs.Directories.{DirBlock, dir_blocks, directory_entries}
 use Rattle.o2_model.specs.Metadata.{Origin, extent_block_origin}
 use Rattle.o2_model.specs.Allocators.{are_metadata}
 use Rattle.o2_model.specs.Indexes.{indexed_directories, index_root, index_extents, index_leaves, is_sound_index_leaf}

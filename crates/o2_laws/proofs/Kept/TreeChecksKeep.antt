@@ -9,7 +9,8 @@ use Rattle.o2_ondisk.specs.declared.kind.Kind.{Kind}
 use Rattle.o2_model.specs.declared.check.Check.TheVariants as check
 use Rattle.o2_model.specs.Faults.{fails_at}
 use Rattle.o2_model.specs.Volume.{Volume, over, dinode}
-use Rattle.o2_model.specs.Directories.{Entry, is_named, named_entries}
+use Rattle.o2_model.specs.declared.entry.Entry.{Entry}
+use Rattle.o2_model.specs.Directories.{is_named, named_entries}
 use Rattle.o2_model.specs.Files.{links_of}
 use Rattle.o2_model.specs.Groups.{is_inode}
 use Rattle.o2_model.specs.Tree.{Entered, TreeWalk, names_users, tree_walk, tree_directories, tree_entries, met_inodes, link_count}

@@ -3,7 +3,8 @@
 use Rattle.std.specs.Prelude.{ℕ, ◌==◌, List, [], ◌∷◌, ◌++◌, map, flat_map, filter, codes}
 use Rattle.o2_model.specs.Faults.{fails_unless}
 use Rattle.o2_model.specs.Volume.{Volume}
-use Rattle.o2_model.specs.Directories.{Entry, directory_entries, is_named}
+use Rattle.o2_model.specs.declared.entry.Entry.{Entry}
+use Rattle.o2_model.specs.Directories.{directory_entries, is_named}
 use Rattle.o2_model.specs.Tree.{Entered, tree_walk}
 
 -- of the entries of one name the first has to name this inode, and there may be no more

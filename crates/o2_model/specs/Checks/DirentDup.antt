@@ -2,7 +2,8 @@
 use Rattle.std.specs.Prelude.{ℕ, Bool, List, map}
 use Rattle.o2_model.specs.Orders.{later_like}
 use Rattle.o2_model.specs.Volume.{Volume}
-use Rattle.o2_model.specs.Directories.{Entry, is_named, named_entries}
+use Rattle.o2_model.specs.declared.entry.Entry.{Entry}
+use Rattle.o2_model.specs.Directories.{is_named, named_entries}
 
 -- two entries of one name
 abbrev pub are_namesakes : Entry → Entry → Bool

@@ -5,7 +5,7 @@ use Rattle.o2_ondisk.specs.Kinds.{type_of_kind}
 use Rattle.o2_model.specs.Faults.{fails_at}
 use Rattle.o2_model.specs.Volume.{Volume}
 use Rattle.o2_model.specs.Inodes.{kind}
-use Rattle.o2_model.specs.Directories.{Entry}
+use Rattle.o2_model.specs.declared.entry.Entry.{Entry}
 use Rattle.o2_model.specs.Groups.{is_inode}
 use Rattle.o2_model.specs.Tree.{tree_entries}
 

@@ -2,7 +2,7 @@
 -- but for refcounted ones of itself or of one tree.
 use Rattle.std.specs.Prelude.{ℕ, Bool, ◌&&◌, ◌||◌, not, ◌==◌, List, map, flat_map, filter, length}
 use Rattle.std.specs.List.{list_all}
-use Rattle.o2_ondisk.specs.declared.extent_rec.ExtentRec.{ExtentRec}
+use Rattle.o2_model.specs.declared.leaf.Leaf.{Leaf}
 use Rattle.o2_model.specs.Faults.{fails_at}
 use Rattle.o2_model.specs.Volume.{Volume, dinode}
 use Rattle.o2_model.specs.Inodes.{records_of}
@@ -17,8 +17,8 @@ pub record ClusterUse : Type 0 where
   pub cluster : ℕ
   pub is_shared : Bool
 
-abbrev pub uses_under : Volume → ℕ → ExtentRec → List ClusterUse
-uses_under v b r = map (λ c. record { inode = b; cluster = c; is_shared = is_refcounted r }) (clusters_under v r)
+abbrev pub uses_under : Volume → ℕ → Leaf → List ClusterUse
+uses_under v b leaf = map (λ c. record { inode = b; cluster = c; is_shared = is_refcounted leaf }) (clusters_under v leaf)
 
 unfoldable pub uses_by : Volume → ℕ → List ClusterUse
 uses_by v b = flat_map (uses_under v b) (records_of v b)

@@ -7,7 +7,7 @@ use Rattle.o2_ondisk.specs.Bits.{has_bits, local_alloc_inode_flag, dealloc_inode
 use Rattle.o2_model.specs.declared.allocator.Allocator.{Allocator}
 use Rattle.o2_model.specs.Faults.{fails_unless}
 use Rattle.o2_model.specs.Volume.{Volume, per_cluster, dinode}
-use Rattle.o2_model.specs.Extents.{leaf_clusters}
+use Rattle.o2_model.specs.LeafRecords.{clusters_in}
 use Rattle.o2_model.specs.Inodes.{leaf_records}
 use Rattle.o2_model.specs.Allocators.{allocators, are_clusters}
 use Rattle.o2_model.specs.Groups.{groups_of}
@@ -21,7 +21,7 @@ allocator_clusters v a =
 -- the clusters that the inode has; without a list there are no leaf records
 unfoldable pub cluster_total : Volume → ℕ → ℕ
 cluster_total v b =
-    option_map_or (allocator_clusters v) (find (λ a. a.block == b) (allocators v)) (sum_by leaf_clusters (leaf_records v b))
+    option_map_or (allocator_clusters v) (find (λ a. a.block == b) (allocators v)) (clusters_in (leaf_records v b))
 
 -- `OCFS2_LOCAL_ALLOC_FL` and `OCFS2_DEALLOC_FL` of i_flags
 abbrev pub unasked_flags : ℕ

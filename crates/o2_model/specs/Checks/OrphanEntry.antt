@@ -8,7 +8,8 @@ use Rattle.o2_model.specs.Words.{among}
 use Rattle.o2_model.specs.Faults.{fails_at}
 use Rattle.o2_model.specs.Orders.{later_like}
 use Rattle.o2_model.specs.Volume.{Volume}
-use Rattle.o2_model.specs.Directories.{Entry, named_entries, own_inodes}
+use Rattle.o2_model.specs.declared.entry.Entry.{Entry}
+use Rattle.o2_model.specs.Directories.{named_entries, own_inodes}
 use Rattle.o2_model.specs.SystemFiles.{system_inode, slots}
 use Rattle.o2_model.specs.Groups.{is_inode}
 use Rattle.o2_model.specs.Checks.OrphanFlag.{is_orphaned}

@@ -16,7 +16,8 @@ use Rattle.o2_model.specs.Faults.{fails_unless, fails_at}
 use Rattle.o2_model.specs.Orders.{later_like}
 use Rattle.o2_model.specs.Volume.{Volume, dinode}
 use Rattle.o2_model.specs.Inodes.{is_directory, is_file}
-use Rattle.o2_model.specs.Directories.{Entry, named_entries, is_named}
+use Rattle.o2_model.specs.declared.entry.Entry.{Entry}
+use Rattle.o2_model.specs.Directories.{named_entries, is_named}
 use Rattle.o2_model.specs.SystemFiles.{system_name, slot_in_name, system_inode, required_files, slot_files}
 use Rattle.o2_model.specs.Groups.{has_inode_bit, is_inode}
 use Rattle.o2_model.specs.RefcountTrees.{has_refcount}

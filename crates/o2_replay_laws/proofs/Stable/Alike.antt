@@ -6,7 +6,7 @@ use Rattle.o2_ondisk.specs.declared.extent_rec.ExtentRec.{ExtentRec}
 use Rattle.o2_model.specs.Words.{among}
 use Rattle.o2_model.specs.Volume.{Volume}
 use Rattle.o2_laws.specs.Frames.{SameOn}
-use Rattle.o2_model.specs.Extents.{Extents, leaf_clusters, with_leaf, with_seen, end_of, is_sound_header, is_extent_block, is_sound_leaf, names_new_block, with_met, records_in_block, read_records, read_list, nothing_read, extent_list}
+use Rattle.o2_model.specs.Extents.{Extents, leaf_clusters, leaf_of, with_leaf, with_seen, end_of, is_sound_header, is_extent_block, is_sound_leaf, names_new_block, with_met, records_in_block, read_records, read_list, nothing_read, extent_list}
 use Rattle.o2_model.specs.Inodes.{is_directory, extents, has_list, most_flags, most_in_dinode}
 use Rattle.o2_laws.proofs.Readings.{push_some, reading_grows, among_last, same_on_before}
 use Rattle.o2_model.proofs.Readings.{met_seen}
@@ -38,13 +38,13 @@ reading_alike v u sizes m depth holder low [] t same none here = refl
 reading_alike v u sizes m zero holder low (r ∷ rs) t same none here =
     elim (cases_Bool (leaf_clusters r == 0)) [
       | inl empty ↦ rw empty (reading_alike v u sizes m zero holder low rs t (rw empty at same) (rw empty at none) (rw empty at here))
-      | inr some ↦ elim (cases_Bool (is_sound_leaf v m (end_of t.leaves) r)) [
+      | inr some ↦ elim (cases_Bool (is_sound_leaf v m (end_of t.leaves) (leaf_of r))) [
         | inr bad ↦ absurd (push_some t.faults holder (rw (some, bad) at none))
-        | inl sound ↦ elim (cases_Bool (is_sound_leaf u m (end_of t.leaves) r)) [
+        | inl sound ↦ elim (cases_Bool (is_sound_leaf u m (end_of t.leaves) (leaf_of r))) [
           | inr bad ↦ absurd (push_some t.faults holder (rw (some, bad) at here))
           | inl also ↦
               rw (some, also, sound)
-              (reading_alike v u sizes m zero holder low rs (with_leaf t r) (rw (some, sound) at same) (rw (some, sound) at none) (rw (some, also) at here))
+              (reading_alike v u sizes m zero holder low rs (with_leaf t (leaf_of r)) (rw (some, sound) at same) (rw (some, sound) at none) (rw (some, also) at here))
         ]
       ]
     ]

@@ -8,7 +8,6 @@ use Rattle.o2_model.specs.Words.{among}
 use Rattle.o2_model.specs.Orders.{from_to}
 use Rattle.o2_model.specs.Volume.{Volume, over, per_cluster}
 use Rattle.o2_laws.specs.Frames.{SameOn}
-use Rattle.o2_model.specs.Extents.{leaf_clusters}
 use Rattle.o2_model.specs.Inodes.{extents, leaf_records, extent_blocks_of}
 use Rattle.o2_model.specs.Directories.{dir_blocks, entries_of_block, directory_entries}
 use Rattle.o2_model.specs.LeafRecords.{blocks_under}
@@ -49,7 +48,7 @@ module _ (v u : Volume) (sizes : SameSizes v u) (j : ℕ) (same : SameOn (journa
   unfolding journal_blocks
   blocks_alike =
       ap (λ t. flat_map (blocks_under u) t.leaves) list_alike
-      ∙ ap (λ n. flat_map (λ r. range_with_len r.blkno (leaf_clusters r * n)) (leaf_records v j)) (alike_per_cluster v u sizes)
+      ∙ ap (λ n. flat_map (λ leaf. range_with_len leaf.block (leaf.clusters * n)) (leaf_records v j)) (alike_per_cluster v u sizes)
 
   block_alike : (k : ℕ) → journal_block u j k ≡ journal_block v j k
   block_alike k =

@@ -27,7 +27,7 @@ use Rattle.o2_replay_laws.proofs.Stable.SameDirectory.{among_first, sound_extent
 use Rattle.o2_replay_laws.proofs.Stable.SameJournal.{usable_extents}
 use Rattle.o2_replay_laws.proofs.Stable.OneSlot.{first_none, none_filtered, told, named_by_slot}
 use Rattle.o2_replay_laws.proofs.Stable.Written.{writes_to, write_of, not_written, bytes_kept, first_apart, parts_apart}
-use Rattle.o2_laws.proofs.Failing.{holds_unless}
+use Rattle.o2_model.proofs.Faults.{holds_unless}
 
 -- The one dirty slot of the volume is s, its journal is j, and the volume can be replayed.
 pub record CanReplay (v : Volume) (s j : ℕ) : Type 0 where

@@ -13,7 +13,8 @@ use Rattle.o2_model.specs.declared.system_file.SystemFile.TheVariants.{OfSlot}
 use Rattle.o2_laws.specs.Frames.{SameOn}
 use Rattle.o2_model.specs.Volume.{Volume, over, volume_of}
 use Rattle.o2_model.specs.Inodes.{extents}
-use Rattle.o2_model.specs.Directories.{Entry, is_named, directory_entries}
+use Rattle.o2_model.specs.declared.entry.Entry.{Entry}
+use Rattle.o2_model.specs.Directories.{is_named, directory_entries}
 use Rattle.o2_model.specs.SystemFiles.{system_name, system_inode}
 use Rattle.o2_model.specs.Journals.{named_journal, is_dirty}
 use Rattle.o2_model.specs.Logs.{LoggedBlock, log_in, unrevoked}

@@ -22,7 +22,7 @@ ghost use Rattle.o2_model.specs.Claims.{claims_by, claims_of, owner_in, structur
 ghost use Rattle.o2_model.specs.Owned.{is_owned, owned_blocks};
 ghost use Rattle.o2_model.specs.Structures.{unsupported_structure};
 ghost use Rattle.o2_model.specs.Failing.{failing};
-ghost use Rattle.o2_cases_volumes.specs.SmallFiles.{record_of};
+ghost use Rattle.o2_cases_volumes.specs.SmallFiles.{leaf_at};
 ghost use Rattle.o2_cases_volumes.specs.OtherVolumes.{changed, far_directory_blocks, leaf_index_blocks, two_chain_blocks, two_directory_blocks};
 ghost use Rattle.o2_cases_volumes.specs.WholeVolume.{volume_with, whole, whole_block, whole_geo, with_number, with_number_at};
 
@@ -68,7 +68,7 @@ pub fn inodes_of_whole()
 
 /// A law: a file whose list is in an extent block has the two records there, and one whose text is in the dinode has none.
 pub fn extents_of_whole()
-    ensures records { records_of whole 29 ≡ record_of 0 1 0 80 ∷ record_of 2 1 0 104 ∷ [] }
+    ensures records { records_of whole 29 ≡ leaf_at 0 1 0 80 ∷ leaf_at 2 1 0 104 ∷ [] }
     ensures blocks { extent_blocks_of whole 29 ≡ 41 ∷ [] }
     ensures no_records { records_of whole 33 ≡ [] }
 {}

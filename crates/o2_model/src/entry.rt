@@ -1,5 +1,5 @@
-// Live entries.
-use o2_view::{Bytes, Items};
+// Live entries of a directory.
+use crate::{Bytes, Items};
 
 /// A live entry of a directory, and where it stands.
 #[derive(Debug, Drop)]
