@@ -6,7 +6,9 @@ use Rattle.std.proofs.lemmas.Bool.Decides.{nat_tests}
 use Rattle.byteorder.specs.Endian.{little_from, little_bytes, big_from, big_bytes}
 use Rattle.byteorder.specs.Numbers.{length-bytes_low_first, little_number-reads_back, length-bytes_high_first, big_number-reads_back}
 use Rattle.o2_ondisk.specs.Number.{number_at, big_number_at}
-use Rattle.o2_ondisk.specs.Fields.{put_at, big_put_at, put_all_by, numbers_by, is_layout, Fit, IsOutside, paste_at, bytes_at, is_apart}
+use Rattle.o2_ondisk.specs.declared.layout.Order.{Order}
+use Rattle.o2_ondisk.specs.declared.layout.Order.TheVariants.{LowFirst, HighFirst}
+use Rattle.o2_ondisk.specs.Fields.{put_in, number_in, put_at, big_put_at, put_all_by, numbers_by, is_layout, Fit, IsOutside, paste_at, bytes_at, is_apart}
 use Rattle.o2_ondisk.specs.declared.layout.Field.{Field}
 use Rattle.o2_ondisk.proofs.NumberLaws.{number_at-same, big_number_at-same}
 use Rattle.o2_ondisk.proofs.PasteLaws.{length-paste_at, get_or-paste_at_before, get_or-paste_at_behind, number_at-paste_at_apart, bytes_at-paste_at_apart}
@@ -90,6 +92,11 @@ high_first = record {
   behind = get_or-big_put_at_behind;
   back = big_number_at-big_put_at;
 }
+
+-- each order is one
+pub codec_of : (order : Order) → IsCodec (number_in order) (put_in order)
+codec_of LowFirst = low_first
+codec_of HighFirst = high_first
 
 -- ---- a table
 -- what the test of a table says

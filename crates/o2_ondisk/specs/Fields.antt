@@ -3,6 +3,8 @@ use Rattle.std.specs.Prelude.{◌≡◌, ◌⊎◌, All, IsTrue, ℕ, ◌+◌, �
 use Rattle.byteorder.specs.Endian.{little_bytes, big_bytes}
 use Rattle.o2_ondisk.specs.Number.{number_at, big_number_at}
 use Rattle.o2_ondisk.specs.declared.layout.Field.{Field}
+use Rattle.o2_ondisk.specs.declared.layout.Order.{Order}
+use Rattle.o2_ondisk.specs.declared.layout.Order.TheVariants.{LowFirst, HighFirst}
 
 -- ---- tables
 -- the field of `width` bytes from `at` on
@@ -71,6 +73,17 @@ numbers_at fields bytes = numbers_by number_at fields bytes
 -- the same, the highest byte first
 abbrev pub big_numbers_at : List Field → List ℕ → List ℕ
 big_numbers_at fields bytes = numbers_by big_number_at fields bytes
+
+-- ---- either order
+-- the bytes with this number at this place, in this order
+abbrev pub put_in : Order → ℕ → ℕ → ℕ → List ℕ → List ℕ
+put_in LowFirst = put_at
+put_in HighFirst = big_put_at
+
+-- the number at this place, in this order
+abbrev pub number_in : Order → ℕ → ℕ → List ℕ → ℕ
+number_in LowFirst = number_at
+number_in HighFirst = big_number_at
 
 -- each value fits its field
 abbrev pub Fit : List Field → List ℕ → Type 0

@@ -1,6 +1,6 @@
 // Tables of fields, and bytes that are no number.
 ghost use Rattle.std.specs.Prelude.{◌≡◌, ◌+◌, ◌≤◌, All, AllPairs, List, ℕ, length, slice_index, IsTrue};
-ghost use Rattle.o2_ondisk.specs.Fields.{put_all, put_at, big_put_all, big_put_at, is_layout, is_disjoint, numbers_at, big_numbers_at, Fit, IsSameIn, IsOutside, IsOutsideSpan, KeepsBytesApart, KeepsNumbersApart, AreBytes, paste_at, bytes_at};
+ghost use Rattle.o2_ondisk.specs.Fields.{put_all, big_put_all, put_all_by, put_in, numbers_by, number_in, is_layout, is_disjoint, numbers_at, big_numbers_at, Fit, IsSameIn, IsOutside, IsOutsideSpan, KeepsBytesApart, KeepsNumbersApart, AreBytes, paste_at, bytes_at};
 
 /// Where a field begins, and how many bytes it has.
 #[derive(Clone, Copy, Debug, PartialEq, Eq)]
@@ -15,6 +15,13 @@ pub struct Layout<const N: usize> {
     pub fields: [Field; N],
 }
 
+// In which order the bytes of a number stand.
+#[derive(Clone, Copy)]
+enum Order {
+    LowFirst,
+    HighFirst,
+}
+
 /// Puts a number into each field, the lowest byte first.
 pub fn put_numbers(block: &mut [u8], fields: &[Field], values: &[u64])
     requires layout { IsTrue (is_layout 0 fields.now (length block.old)) }
@@ -25,18 +32,7 @@ pub fn put_numbers(block: &mut [u8], fields: &[Field], values: &[u64])
     // No other byte changes.
     ensures alone { (i : ℕ) → IsOutside fields.now i → slice_index block.new i ≡ slice_index block.old i }
 {
-    for k in 0..fields.len() {
-        let field = fields[k];
-        put_number(block, field.at, field.width, values[k]);
-    }
-}
-
-fn put_number(block: &mut [u8], at: usize, width: usize, value: u64)
-    requires width { width ≤ 8 }
-    requires fits { at + width ≤ length block.old }
-    ensures { block.new ≡ put_at at width value block.old }
-{
-    block[at..at + width].copy_from_slice(&value.to_le_bytes()[..width]);
+    put_in_order(Order::LowFirst, block, fields, values);
 }
 
 /// Puts a number into each field, the highest byte first, as in the blocks of a JBD2 log.
@@ -49,18 +45,36 @@ pub fn put_big_numbers(block: &mut [u8], fields: &[Field], values: &[u64])
     // No other byte changes.
     ensures alone { (i : ℕ) → IsOutside fields.now i → slice_index block.new i ≡ slice_index block.old i }
 {
+    put_in_order(Order::HighFirst, block, fields, values);
+}
+
+// Puts a number into each field.
+fn put_in_order(order: Order, block: &mut [u8], fields: &[Field], values: &[u64])
+    requires layout { IsTrue (is_layout 0 fields.now (length block.old)) }
+    requires values { length values.now ≡ length fields.now }
+    ensures put { block.new ≡ put_all_by (put_in order) fields.now values.now block.old }
+    ensures back { Fit fields.now values.now → numbers_by (number_in order) fields.now block.new ≡ values.now }
+    ensures alone { (i : ℕ) → IsOutside fields.now i → slice_index block.new i ≡ slice_index block.old i }
+{
     for k in 0..fields.len() {
         let field = fields[k];
-        put_big_number(block, field.at, field.width, values[k]);
+        put_number(order, block, field.at, field.width, values[k]);
     }
 }
 
-fn put_big_number(block: &mut [u8], at: usize, width: usize, value: u64)
+fn put_number(order: Order, block: &mut [u8], at: usize, width: usize, value: u64)
     requires width { width ≤ 8 }
     requires fits { at + width ≤ length block.old }
-    ensures { block.new ≡ big_put_at at width value block.old }
+    ensures { block.new ≡ put_in order at width value block.old }
 {
-    block[at..at + width].copy_from_slice(&value.to_be_bytes()[8 - width..]);
+    match order {
+        Order::LowFirst => {
+            block[at..at + width].copy_from_slice(&value.to_le_bytes()[..width]);
+        }
+        Order::HighFirst => {
+            block[at..at + width].copy_from_slice(&value.to_be_bytes()[8 - width..]);
+        }
+    }
 }
 
 /// Puts bytes that are no number, as a name or an identifier.
