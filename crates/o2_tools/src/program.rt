@@ -68,11 +68,21 @@ pub fn run<D: Disk, E: Disk, K: Sink>(
 {
     let cause = match read_words(alloc, words) {
         Err(fault) => put_line(alloc, first_word(words), cause_of_fault(fault), out),
-        Ok(Command::Label { label, device: place }) => {
+        Ok(
+            Command::Label {
+                label,
+                device: place,
+            },
+        ) => {
             let name = words[place as usize].as_str();
             run_label(alloc, device, name, label.as_slice(), out)
         }
-        Ok(Command::Debug { query, device: place }) => {
+        Ok(
+            Command::Debug {
+                query,
+                device: place,
+            },
+        ) => {
             let name = words[place as usize].as_str();
             run_query(alloc, device, name, query, out)
         }

@@ -1,7 +1,9 @@
 pub mod Lines
+pub mod NotBuilt
 pub mod OneQuery
 pub mod Options
 pub mod Places
 pub mod QueryWordLemmas
 pub mod Readings
 pub mod Refused
+pub mod Shapes

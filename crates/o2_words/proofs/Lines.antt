@@ -1,5 +1,5 @@
 -- The lines of the forms that are served.
-use Rattle.std.proofs.Common.{◌≡◌, ◌⊎◌, inl, inr, ⊎_elim, ℕ, ◌+◌, ◌<◌, List, [], ◌∷◌, take, drop, get_or, refl, sym, ◌∙◌, ap, subst, arith, codes, All, HoldsAt}
+use Rattle.std.proofs.Common.{◌≡◌, ◌⊎◌, inl, inr, ⊎_elim, ℕ, zero, suc, ◌+◌, ◌<◌, List, [], ◌∷◌, take, drop, get_or, refl, sym, ◌∙◌, ap, subst, arith, codes, All, HoldsAt}
 use Rattle.std.proofs.lemmas.List.Elements.{All-nil}
 use Rattle.o2_words.specs.Kinds.{Fits}
 use Rattle.o2_words.specs.Parts.{MayBeLeft}
@@ -62,7 +62,10 @@ label_line words line =
 line_label : (words : Words) → IsTunefs words → Matches LABEL_FORM words
 line_label words (label, (device, line)) =
     subst (Matches LABEL_FORM) (sym line.form)
-    (joined (Fixed Tunefs) _ (codes "tunefs") _ refl (joined (Fixed Label) _ (codes "-L") _ refl (joined Text _ label _ tt (joined Device _ device _ line.names empty_line))))
+    (joined (Fixed Tunefs) (One (Fixed Label) ∷ One Text ∷ One Device ∷ []) (codes "tunefs") (codes "-L" ∷ label ∷ device ∷ []) refl
+    (joined (Fixed Label) (One Text ∷ One Device ∷ []) (codes "-L") (label ∷ device ∷ []) refl
+    (joined Text (One Device ∷ []) label (device ∷ []) tt
+    (joined Device [] device [] line.names empty_line))))
 
 debug_line : (words : Words) → Matches DEBUG_FORM words → IsDebugfs words
 debug_line words line =
@@ -81,7 +84,10 @@ debug_line words line =
 line_debug : (words : Words) → IsDebugfs words → Matches DEBUG_FORM words
 line_debug words (word, (device, line)) =
     subst (Matches DEBUG_FORM) (sym line.form)
-    (joined (Fixed Debugfs) _ (codes "debugfs") _ refl (joined (Fixed Ask) _ (codes "-R") _ refl (joined Query _ word _ line.asks (joined Device _ device _ line.names empty_line))))
+    (joined (Fixed Debugfs) (One (Fixed Ask) ∷ One Query ∷ One Device ∷ []) (codes "debugfs") (codes "-R" ∷ word ∷ device ∷ []) refl
+    (joined (Fixed Ask) (One Query ∷ One Device ∷ []) (codes "-R") (word ∷ device ∷ []) refl
+    (joined Query (One Device ∷ []) word (device ∷ []) line.asks
+    (joined Device [] device [] line.names empty_line))))
 
 -- ---- all the forms
 lines_at : (words : Words) (k : ℕ) (form : Form) → k < 2 → get_or forms k form ≡ form → Matches form words → IsTunefs words ⊎ IsDebugfs words

@@ -68,8 +68,8 @@ unfolding sample_of
 sample_fits (Fixed name) = refl
 sample_fits Text = tt
 sample_fits Device = record { some = omega arith; no_option = λ is. absurd (omega (arith, is)) }
-sample_fits Query = omega arith
-sample_fits Number = record { some = omega arith }
+sample_fits Query = inr (inl refl)
+sample_fits Number = record { some = omega arith; most = omega arith; digits = refl }
 
 -- the first part of a form reads the word
 pub first_reads : (part : Part) (form : Form) (word : List ℕ) → Reads part word → Follows (part ∷ form) word (left_behind part [] form)

@@ -1,10 +1,10 @@
 -- The command lines that the program reads, and how it refuses other words.
-use Rattle.std.specs.Prelude.{◌≡◌, ◌⊎◌, ℕ, ◌+◌, ◌<◌, ◌≤◌, List, [], ◌∷◌, length, take, codes, slice_index_or}
+use Rattle.std.specs.Prelude.{◌≡◌, ◌⊎◌, ℕ, ◌+◌, ◌<◌, ◌≤◌, List, [], ◌∷◌, length, map, take, codes, slice_index_or}
 use Rattle.o2_words.specs.Forms.{Form, IsLineOf, BeginsLineOf}
 use Rattle.o2_words.specs.QueryWords.{IsForLater, IsQueryWord}
 use Rattle.o2_words.specs.declared.command.WordFault.{WordFault}
 use Rattle.o2_words.specs.declared.command.WordFault.TheVariants.{NoMemory, Usage, Later}
-use Rattle.o2_words.specs.declared.form.TheConstants.{LABEL_FORM, DEBUG_FORM}
+use Rattle.o2_words.specs.declared.form.TheConstants.{FORMS}
 pub use Rattle.o2_words.specs.Forms.{Words, texts}
 pub use Rattle.o2_words.specs.Kinds.{IsDevice}
 
@@ -29,7 +29,7 @@ IsDebugfs words = (word : List ℕ) × ((device : List ℕ) × IsDebugLine word 
 
 -- the forms that are served
 abbrev pub forms : List Form
-forms = LABEL_FORM ∷ DEBUG_FORM ∷ []
+forms = map (λ form. form.now) FORMS
 
 -- the words are a command line
 abbrev pub IsLine : Words → Type 0

@@ -32,10 +32,13 @@ pub fn read_words(alloc: Global, words: &[String]) -> Result<Command, WordFault>
         });
     }
     if let Some(asked) = read_asked(words) {
-        return Ok(Command::Debug {
-            query: query_of(alloc, asked)?,
-            device: DEVICE,
-        });
+        return match query_of(alloc, asked) {
+            Ok(query) => Ok(Command::Debug {
+                query,
+                device: DEVICE,
+            }),
+            Err(fault) => Err(fault),
+        };
     }
     let place = farthest(alloc, &FORMS, words)?;
     Err(WordFault::Usage {

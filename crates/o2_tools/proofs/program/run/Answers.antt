@@ -1,0 +1,117 @@
+-- By what was read of the words.
+use Rattle.std.proofs.Common.{◌≡◌, ◌⊎◌, inl, inr, ℕ, refl, sym, ◌∙◌, ap, subst}
+use Rattle.o2_cause.specs.Causes.{cause_line, EndsBy}
+use Rattle.o2_cause.specs.Taken.{Takes, TakesSome}
+use Rattle.o2_cause.specs.declared.cause.Cause.{Cause}
+use Rattle.o2_cause.specs.declared.cause.Cause.TheVariants as cause
+use Rattle.o2_words.specs.CommandLine.{texts, label_of, device_of, word_of}
+use Rattle.o2_words.specs.Commands.{Says, ReadsLabel, ReadsQuery}
+use Rattle.o2_words.specs.QueryWords.{IsForLater}
+use Rattle.o2_words.specs.declared.command.Command.{Command}
+use Rattle.o2_words.proofs.Lines.{is_line}
+use Rattle.o2_words.proofs.Refused.{refused_tunefs, refused_query, not_both, not_later}
+use Rattle.o2_words.proofs.OneQuery.{asks_one}
+use Rattle.o2_tunefs.proofs.Runs.{not_begun}
+use Rattle.o2_debugfs.proofs.Runs.{not_begun as not_asked}
+use Rattle.o2_tools.specs.Refused.{RefusesBy}
+use Rattle.o2_tools.proofs.Ends.{label_read, name_read, four_words, refused_by, by_memory, by_later, label_as, query_as, line_as}
+use Rattle.o2_tools.proofs.program.run.Goals as goal
+use Rattle.o2_tools.proofs.program.run.Goals.{in-Err, in-Ok-Label, in-Ok-Debug}
+
+pub returns-clause-words : goal.returns-clause-words
+returns-clause-words g c other = elim c.match-read_words.branch [
+  | in-Err w ↦
+      let words = texts c.args.words.now in
+      let ends = subst (λ (k : Cause). EndsBy k w.put_line-cause.result) w.cause_of_fault.ensures w.put_line-cause.ensures.ends in
+      subst (RefusesBy words) (sym (c.by.ensures.cause ∙ w.cause-is)) (refused_by words w.in-Err.fault w.in-Err.ensures w.put_line-cause.result ends)
+  | in-Ok-Label w ↦
+      let words = texts c.args.words.now in
+      let says : ReadsLabel w.in-Ok-Label.label w.in-Ok-Label.place words = subst (λ (k : Command). Says k words) w.in-Ok-Label.field-0-is w.in-Ok-Label.ensures in
+      absurd (other (is_line words (inl (_, (_, says.line)))))
+  | in-Ok-Debug w ↦
+      let words = texts c.args.words.now in
+      let says : ReadsQuery w.in-Ok-Debug.query w.in-Ok-Debug.place words = subst (λ (k : Command). Says k words) w.in-Ok-Debug.field-0-is w.in-Ok-Debug.ensures in
+      absurd (other (is_line words (inr (_, (_, says.line)))))
+]
+
+pub returns-clause-later : goal.returns-clause-later
+returns-clause-later g c later = elim c.match-read_words.branch [
+  | in-Err w ↦
+      let words = texts c.args.words.now in
+      let ends = subst (λ (k : Cause). EndsBy k w.put_line-cause.result) w.cause_of_fault.ensures w.put_line-cause.ensures.ends in
+      subst (λ (k : Cause). (k ≡ cause.Later) ⊎ (k ≡ cause.NoMemory)) (sym (c.by.ensures.cause ∙ w.cause-is)) (by_later words w.in-Err.fault w.in-Err.ensures w.put_line-cause.result ends later)
+  | in-Ok-Label w ↦
+      let words = texts c.args.words.now in
+      let says : ReadsLabel w.in-Ok-Label.label w.in-Ok-Label.place words = subst (λ (k : Command). Says k words) w.in-Ok-Label.field-0-is w.in-Ok-Label.ensures in
+      absurd (not_both words (_, (_, says.line)) (later.word, (later.device, later.line)))
+  | in-Ok-Debug w ↦
+      let words = texts c.args.words.now in
+      let says : ReadsQuery w.in-Ok-Debug.query w.in-Ok-Debug.place words = subst (λ (k : Command). Says k words) w.in-Ok-Debug.field-0-is w.in-Ok-Debug.ensures in
+      let same : word_of words ≡ later.word = (let e = says.line.form in let f = later.line.form in cc (e, f)) in
+      absurd (not_later w.in-Ok-Debug.query (word_of words) says.asks (subst IsForLater (sym same) later.later))
+]
+
+-- ---- the tools
+pub returns-clause-label : goal.returns-clause-label
+returns-clause-label g c line = elim c.match-read_words.branch [
+  | in-Err w ↦
+      let words = texts c.args.words.now in
+      let put = w.put_line-cause.ensures in
+      let state = g.K.Sink.state in
+      let ends = subst (λ (k : Cause). EndsBy k w.put_line-cause.result) w.cause_of_fault.ensures put.ends in
+      let memory = by_memory words w.in-Err.fault w.in-Err.ensures w.put_line-cause.result ends (refused_tunefs words w.in-Err.fault line w.in-Err.ensures) in
+      label_as refl refl (ap g.D.Disk.state w.device-is) (ap state w.out-is) (c.by.ensures.cause ∙ w.cause-is ∙ memory)
+      (not_begun (label_of words) (device_of words) (g.D.Disk.state c.args.device.now) (g.met.D.Disk.only_now c.args.device.now) (state c.args.out.now) (state w.put_line-cause.new.out) put.stops (
+        λ calm. subst (λ (k : Cause). Takes (state c.args.out.now) (state w.put_line-cause.new.out) (cause_line w.first_word.result.now k)) memory (put.all calm),
+        subst (λ (k : Cause). TakesSome (state c.args.out.now) (state w.put_line-cause.new.out) (cause_line w.first_word.result.now k)) memory put.some,
+      ))
+  | in-Ok-Label w ↦
+      let words = texts c.args.words.now in
+      let says : ReadsLabel w.in-Ok-Label.label w.in-Ok-Label.place words = subst (λ (k : Command). Says k words) w.in-Ok-Label.field-0-is w.in-Ok-Label.ensures in
+      label_as (w.as_slice.ensures ∙ label_read w.in-Ok-Label.label w.in-Ok-Label.place words says)
+      (name_read c.args.words.now w.in-Ok-Label.place w.index-words-place.result w.as_str-name.result.now says.place (four_words words _ _ _ _ says.line.form) w.index-words-place.is w.as_str-name.ensures.value)
+      (ap g.D.Disk.state w.device-is) (ap g.K.Sink.state w.out-is) (c.by.ensures.cause ∙ w.cause-is) w.run_label-cause.ensures
+  | in-Ok-Debug w ↦
+      let words = texts c.args.words.now in
+      let says : ReadsQuery w.in-Ok-Debug.query w.in-Ok-Debug.place words = subst (λ (k : Command). Says k words) w.in-Ok-Debug.field-0-is w.in-Ok-Debug.ensures in
+      absurd (not_both words line (_, (_, says.line)))
+]
+
+pub returns-clause-query : goal.returns-clause-query
+returns-clause-query g c query asks = elim c.match-read_words.branch [
+  | in-Err w ↦
+      let words = texts c.args.words.now in
+      let put = w.put_line-cause.ensures in
+      let state = g.K.Sink.state in
+      let ends = subst (λ (k : Cause). EndsBy k w.put_line-cause.result) w.cause_of_fault.ensures put.ends in
+      let memory = by_memory words w.in-Err.fault w.in-Err.ensures w.put_line-cause.result ends (refused_query words w.in-Err.fault (query, asks) w.in-Err.ensures) in
+      query_as refl refl (ap g.D.Disk.state w.device-is) (ap state w.out-is) (c.by.ensures.cause ∙ w.cause-is ∙ memory)
+      (not_asked query (device_of words) (g.D.Disk.state c.args.device.now) (state c.args.out.now) (state w.put_line-cause.new.out) put.stops (
+        λ calm. subst (λ (k : Cause). Takes (state c.args.out.now) (state w.put_line-cause.new.out) (cause_line w.first_word.result.now k)) memory (put.all calm),
+        subst (λ (k : Cause). TakesSome (state c.args.out.now) (state w.put_line-cause.new.out) (cause_line w.first_word.result.now k)) memory put.some,
+      ))
+  | in-Ok-Label w ↦
+      let words = texts c.args.words.now in
+      let says : ReadsLabel w.in-Ok-Label.label w.in-Ok-Label.place words = subst (λ (k : Command). Says k words) w.in-Ok-Label.field-0-is w.in-Ok-Label.ensures in
+      absurd (not_both words (_, (_, says.line)) (_, (_, asks.line)))
+  | in-Ok-Debug w ↦
+      let words = texts c.args.words.now in
+      let says : ReadsQuery w.in-Ok-Debug.query w.in-Ok-Debug.place words = subst (λ (k : Command). Says k words) w.in-Ok-Debug.field-0-is w.in-Ok-Debug.ensures in
+      query_as (asks_one w.in-Ok-Debug.query query (word_of words) says.asks asks.asks)
+      (name_read c.args.words.now w.in-Ok-Debug.place w.index-words-place-in-Ok-Debug.result w.as_str-name-in-Ok-Debug.result.now says.place (four_words words _ _ _ _ says.line.form) w.index-words-place-in-Ok-Debug.is w.as_str-name-in-Ok-Debug.ensures.value)
+      (ap g.D.Disk.state w.device-is) (ap g.K.Sink.state w.out-is) (c.by.ensures.cause ∙ w.cause-is) w.run_query-cause.ensures
+]
+
+-- ---- other words
+pub returns-clause-front : goal.returns-clause-front
+returns-clause-front g c other unasked = elim c.match-read_words.branch [
+  | in-Err w ↦ line_as w.first_word.ensures (ap g.K.Sink.state w.out-is) (c.by.ensures.cause ∙ w.cause-is) w.put_line-cause.ensures.some
+  | in-Ok-Label w ↦
+      let words = texts c.args.words.now in
+      let says : ReadsLabel w.in-Ok-Label.label w.in-Ok-Label.place words = subst (λ (k : Command). Says k words) w.in-Ok-Label.field-0-is w.in-Ok-Label.ensures in
+      absurd (other (_, (_, says.line)))
+  | in-Ok-Debug w ↦
+      let words = texts c.args.words.now in
+      let says : ReadsQuery w.in-Ok-Debug.query w.in-Ok-Debug.place words = subst (λ (k : Command). Says k words) w.in-Ok-Debug.field-0-is w.in-Ok-Debug.ensures in
+      absurd (unasked (w.in-Ok-Debug.query, subst (λ (k : ℕ). ReadsQuery w.in-Ok-Debug.query k words) says.place says))
+]
