@@ -1,5 +1,5 @@
 -- The three checks, where their tests hold and where one does not.
-use Rattle.std.proofs.Common.{◌≡◌, ℕ, Bool, true, false, ◌&&◌, [], refl, sym, ◌∙◌, subst, inl, inr}
+use Rattle.std.proofs.Common.{◌≡◌, ℕ, true, false, ◌&&◌, refl, sym, ◌∙◌, subst, inl, inr}
 use Rattle.std.proofs.lemmas.Bool.{and_left}
 use Rattle.o2_model.specs.Words.{IsLeast}
 use Rattle.o2_model.specs.Orders.{is_none_of}

@@ -78,11 +78,13 @@ fast_part v b size at len bytes behind out outside fast holds tells rest is = rw
     ∙ (ap (λ xs. take len (drop at (take size xs))) (rest ∙ ap (drop 0xc0) holds)
     ∙ ap (λ n. take len (drop at (take n (drop 0xc0 (v.at b))))) tells))
 
-pub mapped_part : (v : Volume) (b size at len : ℕ) (out : List ℕ) → is_inline v b ≡ false → is_fast_link v b ≡ false → size ≡ (dinode v b).size
-    → out ≡ take len (drop at (map (byte_of v (leaf_records v b)) (range_with_len 0 size))) → out ≡ take len (drop at (bytes_of v b))
+pub mapped_part : (v : Volume) (b size at len : ℕ) (leaves : List Leaf) (out : List ℕ) → is_inline v b ≡ false → is_fast_link v b ≡ false → size ≡ (dinode v b).size → leaves ≡ leaf_records v b
+    → out ≡ take len (drop at (map (byte_of v leaves) (range_with_len 0 size))) → out ≡ take len (drop at (bytes_of v b))
 unfolding bytes_of
-mapped_part v b size at len out outside slow tells is = rw (outside, slow)
-    (is ∙ ap (λ n. take len (drop at (map (byte_of v (leaf_records v b)) (range_with_len 0 n)))) tells)
+mapped_part v b size at len leaves out outside slow tells are is = rw (outside, slow)
+    (is
+    ∙ (ap (λ (ls : List Leaf). take len (drop at (map (byte_of v ls) (range_with_len 0 size)))) are
+    ∙ ap (λ n. take len (drop at (map (byte_of v (leaf_records v b)) (range_with_len 0 n)))) tells))
 
 pub fast_told : (bytes at : List ℕ) (d : Dinode) (told_of is : Bool) → bytes ≡ at → d ≡ dinode_of bytes → told_of ≡ has_fast_text d → told_of ≡ is → has_fast_text (dinode_of at) ≡ is
 fast_told bytes at d told_of is holds dinode_is tells tested =

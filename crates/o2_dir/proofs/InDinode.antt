@@ -1,5 +1,5 @@
 -- A directory whose entries stand in its dinode.
-use Rattle.std.proofs.Common.{◌≡◌, ℕ, ◌+◌, ◌-◌, ◌^◌, ◌≤◌, Bool, true, cond, ◌&&◌, List, [], ◌∷◌, flat_map, length, map, take, drop, refl, sym, ◌∙◌, ap, subst, arith, Option, None, Result}
+use Rattle.std.proofs.Common.{◌≡◌, ℕ, ◌+◌, ◌-◌, ◌^◌, ◌≤◌, Bool, true, cond, ◌&&◌, List, [], ◌∷◌, flat_map, length, take, drop, refl, sym, ◌∙◌, ap, subst, arith, Option, None, Result}
 use Rattle.std.specs.Prelude.{IfOk}
 use Rattle.std.specs.Result.{IfErr}
 use Rattle.std.proofs.lemmas.Result.{IfOk-weaker, IfErr-weaker}

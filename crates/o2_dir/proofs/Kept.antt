@@ -1,5 +1,5 @@
 -- What is kept of a directory's blocks, one after the other.
-use Rattle.std.proofs.Common.{◌≡◌, ℕ, true, false, ◌||◌, not, ◌==◌, List, [], ◌∷◌, ◌++◌, map, filter, flat_map, take, length, refl, sym, ◌∙◌, ap, Option, Some, None, option_map, is_some, unwrap_or}
+use Rattle.std.proofs.Common.{◌≡◌, ℕ, true, false, ◌||◌, not, ◌==◌, List, [], ◌∷◌, ◌++◌, map, filter, flat_map, refl, sym, ◌∙◌, ap, Option, Some, None, option_map, is_some, unwrap_or}
 use Rattle.std.proofs.lemmas.List.{append-nil, map_push}
 use Rattle.std.proofs.lemmas.List.Elements.{filter-append}
 use Rattle.std.proofs.lemmas.Grind.{flat_map-append}

@@ -1,5 +1,5 @@
 -- Where nothing fails, each check's list is empty; and a check whose items keep their condition keeps its list.
-use Rattle.std.proofs.Common.{◌≡◌, inl, inr, ℕ, ◌^◌, Bool, true, List, [], ◌∷◌, map, length, refl, false}
+use Rattle.std.proofs.Common.{◌≡◌, inl, inr, ℕ, ◌^◌, Bool, true, List, [], ◌∷◌, map, length, refl}
 use Rattle.std.specs.List.{AllByRecursion}
 use Rattle.std.proofs.lemmas.Bool.{cases_Bool}
 use Rattle.o2_laws.proofs.Found.{append_nothing, map_none}

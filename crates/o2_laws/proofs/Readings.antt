@@ -54,20 +54,27 @@ pub grows_met : (v : Volume) (b : ℕ) (t : Extents) → Grows t (with_met v b t
 unfolding with_met
 grows_met v b t = grows_cond (is_sound_header (most_in_block v) (list_in_block v b).header) t _ _ (grows_block t b) (grows_both (grows_block t b) (grows_fault (with_block t b) b))
 
+-- a record of an inner list: what is below it gives `child`, and the records behind it `whole`
+pub grows_inner : (v : Volume) (depth holder low : ℕ) (r : ExtentRec) (t child whole : Extents) → Grows (with_met v r.blkno (with_seen t r.blkno)) child → Grows child whole
+    → Grows t (cond (not (names_new_block v low t.seen r)) (with_fault t holder) (cond (is_extent_block v depth r.blkno) whole (with_fault (with_seen t r.blkno) holder)))
+grows_inner v depth holder low r t child whole below rest =
+    let looked = with_seen t r.blkno in
+    grows_cond (not (names_new_block v low t.seen r)) t _ _
+    (grows_fault t holder)
+    (grows_cond (is_extent_block v depth r.blkno) t _ _
+    (grows_both (grows_both (grows_seen t r.blkno) (grows_both (grows_met v r.blkno looked) below)) rest)
+    (grows_both (grows_seen t r.blkno) (grows_fault looked holder)))
+
 pub reading_grows : (v : Volume) (m depth holder low : ℕ) (rs : List ExtentRec) (t : Extents) → Grows t (read_records v m depth holder low rs t)
 reading_grows v m depth holder low [] t = grows_none t
 reading_grows v m zero holder low (r ∷ rs) t =
     grows_cond (leaf_clusters r == 0) t _ _ (reading_grows v m zero holder low rs t)
     (grows_cond (is_sound_leaf v m (end_of t.leaves) (leaf_of r)) t _ _ (grows_both (grows_leaf t (leaf_of r)) (reading_grows v m zero holder low rs (with_leaf t (leaf_of r)))) (grows_fault t holder))
 reading_grows v m (suc depth) holder low (r ∷ rs) t =
-    let t' = with_seen t r.blkno in
-    grows_cond (not (names_new_block v low t.seen r)) t _ _
-    (grows_fault t holder)
-    (grows_cond (is_extent_block v depth r.blkno) t _ _
-    (grows_both
-    (grows_both (grows_seen t r.blkno) (grows_both (grows_met v r.blkno t') (reading_grows v m depth r.blkno 0 (records_in_block v r.blkno) (with_met v r.blkno t'))))
-    (reading_grows v m (suc depth) holder (r.cpos + 1) rs _))
-    (grows_both (grows_seen t r.blkno) (grows_fault t' holder)))
+    let met = with_met v r.blkno (with_seen t r.blkno) in
+    let child = read_records v m depth r.blkno 0 (records_in_block v r.blkno) met in
+    let rest = reading_grows v m (suc depth) holder (r.cpos + 1) rs child in
+    grows_inner v depth holder low r t child _ (reading_grows v m depth r.blkno 0 (records_in_block v r.blkno) met) rest
 
 -- ---- over other blocks
 pub same_new : (v : Volume) (at : ℕ → List ℕ) (low : ℕ) (seen : List ℕ) (r : ExtentRec) → names_new_block (over v at) low seen r ≡ names_new_block v low seen r

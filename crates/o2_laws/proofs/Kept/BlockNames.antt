@@ -1,5 +1,5 @@
 -- The reading of a refcount tree's list of leaves: what it keeps, which blocks it looks at, and that blocks which agree on those give the same.
-use Rattle.std.proofs.Common.{◌≡◌, inl, inr, ℕ, zero, suc, ◌+◌, true, not, cond, ◌==◌, List, [], ◌∷◌, refl, ap}
+use Rattle.std.proofs.Common.{◌≡◌, inl, inr, ℕ, zero, suc, ◌+◌, true, cond, ◌==◌, List, [], ◌∷◌, refl, ap}
 use Rattle.std.proofs.lemmas.Bool.{cases_Bool, or_left, or_right, eq-eqb}
 use Rattle.o2_ondisk.specs.declared.extent_rec.ExtentRec.{ExtentRec}
 use Rattle.o2_model.specs.Words.{among, push}
@@ -7,7 +7,7 @@ use Rattle.o2_model.specs.Volume.{Volume, over}
 use Rattle.o2_laws.specs.Frames.{SameOn}
 use Rattle.o2_model.specs.Extents.{Extents, leaf_clusters, leaf_of, list_in_block, with_leaf, with_seen, is_sound_header, is_extent_block, names_new_block, most_in_block, with_met, records_in_block, nothing_read, extent_list}
 use Rattle.o2_model.specs.RefcountTrees.{is_refcount_block, has_leaf_blocks, most_in_refcount_block, read_block_names, leaf_list}
-use Rattle.o2_laws.proofs.Readings.{Grows, grows_none, grows_both, grows_leaf, grows_seen, grows_fault, grows_cond, grows_met, push_some, among_last, same_new, same_block, same_met, same_records, same_on_before}
+use Rattle.o2_laws.proofs.Readings.{Grows, grows_none, grows_both, grows_leaf, grows_cond, grows_inner, push_some, among_last, same_new, same_block, same_met, same_records, same_on_before}
 use Rattle.o2_model.proofs.Readings.{met_seen}
 
 -- ---- what a reading keeps of what was read before
@@ -16,14 +16,10 @@ names_grow v depth holder low [] t = grows_none t
 names_grow v zero holder low (r ∷ rs) t =
     grows_both (grows_cond (leaf_clusters r == 0) t t (with_leaf t (leaf_of r)) (grows_none t) (grows_leaf t (leaf_of r))) (names_grow v zero holder low rs _)
 names_grow v (suc depth) holder low (r ∷ rs) t =
-    let t' = with_seen t r.blkno in
-    grows_cond (not (names_new_block v low t.seen r)) t _ _
-    (grows_fault t holder)
-    (grows_cond (is_extent_block v depth r.blkno) t _ _
-    (grows_both
-    (grows_both (grows_seen t r.blkno) (grows_both (grows_met v r.blkno t') (names_grow v depth r.blkno 0 (records_in_block v r.blkno) (with_met v r.blkno t'))))
-    (names_grow v (suc depth) holder (r.cpos + 1) rs _))
-    (grows_both (grows_seen t r.blkno) (grows_fault t' holder)))
+    let met = with_met v r.blkno (with_seen t r.blkno) in
+    let child = read_block_names v depth r.blkno 0 (records_in_block v r.blkno) met in
+    let rest = names_grow v (suc depth) holder (r.cpos + 1) rs child in
+    grows_inner v depth holder low r t child _ (names_grow v depth r.blkno 0 (records_in_block v r.blkno) met) rest
 
 -- ---- over other blocks
 -- Read without a fault, the records give the same over other blocks that agree on those that were looked at.
