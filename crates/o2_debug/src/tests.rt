@@ -13,6 +13,8 @@ use std::alloc::Global;
 use std::process::Abort;
 use std::test::Fail;
 
+mod reads;
+
 fn volume(rt: &impl Abort, alloc: Global) -> Result<MemDisk, Fail> {
     let mut disk = MemDisk::new(alloc, 128)?;
     disk.attach(alloc, "made", How::ReadWrite)?;
@@ -34,7 +36,7 @@ fn answered<D: Disk>(
     requires path { IsPath (path_of query.now) }
 {
     let blocks = disk.sectors() >> (geo.block_bits - 9);
-    let Ok(mut view) = View::<D, 16>::new(alloc, disk, geo.block_bits, blocks) else {
+    let Ok(mut view) = View::<D, 1>::new(alloc, disk, geo.block_bits, blocks) else {
         return Err(DebugFault::NoMemory);
     };
     command(alloc, &mut view, geo, query, out)

@@ -14,11 +14,12 @@ ghost use Rattle.o2_dir.specs.Paths.{StepsTo, Lacks, FailsAt};
 
 use crate::PathFault;
 use crate::data_inode::is_valid_dinode;
-use crate::names::look_up;
+use crate::kinds::is_of_directory;
+use crate::names::look_up_in;
 use o2_disk::Disk;
-use o2_extent::{block_bytes, volume_blocks};
+use o2_extent::{block_bytes, look, volume_blocks};
 use o2_model::{Check, Geo};
-use o2_ondisk::{Dinode, Kind, read_dinode};
+use o2_ondisk::read_dinode;
 use o2_view::{View, ViewFault};
 use std::alloc::Global;
 
@@ -35,12 +36,8 @@ pub fn is_directory_at<D: Disk, const N: usize>(
     ensures reads { OnlyReads view.old view.new }
     ensures fault { IsErrOf result ViewFault.DeviceFault → Rose (view_state view.old).faults (view_state view.new).faults }
 {
-    let _bytes = block_bytes(geo);
-    let block = view.block(inode)?;
-    match read_dinode(block.as_slice()).kind() {
-        Some(Kind::Directory) => Ok(true),
-        _ => Ok(false),
-    }
+    let block = look(view, geo, inode)?;
+    Ok(is_of_directory(&read_dinode(block.as_slice())))
 }
 
 /// Whether block `b` is a valid dinode of the volume. Any number may be asked.
@@ -83,10 +80,12 @@ pub fn step<D: Disk, const N: usize>(
     ensures reads { OnlyReads view.old view.new }
     ensures fault { IsErrOf result PathFault.DeviceFault → Rose (view_state view.old).faults (view_state view.new).faults }
 {
-    if !is_directory_at(view, geo, inode)? {
+    let block = look(view, geo, inode)?;
+    let bytes = block.as_slice();
+    if !is_of_directory(&read_dinode(bytes)) {
         return Err(PathFault::WrongKind);
     }
-    let entry = look_up(alloc, view, geo, inode, name)?;
+    let entry = look_up_in(alloc, view, geo, inode, bytes, name)?;
     if !is_valid_at(view, geo, entry.inode)? {
         return Err(PathFault::Bad {
             check: Check::DirentInode,

@@ -9,6 +9,7 @@ mod leaf;
 mod list;
 mod maps;
 mod pieces;
+mod place;
 mod reading;
 mod runs;
 mod tree;
@@ -16,12 +17,13 @@ mod tree;
 pub use dinode::{has_list, is_fast_link, is_inline};
 pub use geometry::{block_bytes, blocks_per_cluster, volume_blocks};
 pub use inode::{Inode, read_inode};
-pub use inode_records::{least, records};
+pub use inode_records::{least, records, records_in};
 pub use leaf::{Leaf, Leaves};
 pub use maps::map_cluster;
 pub use pieces::add_bytes;
 pub use reading::Reading;
 pub use runs::{ExtentList, list_of_runs};
+pub use tree::look;
 
 #[cfg(test)]
 mod tests;

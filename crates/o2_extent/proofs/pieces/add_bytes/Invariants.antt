@@ -8,11 +8,12 @@ use Rattle.o2_model.specs.Contents.{byte_of}
 use Rattle.o2_extent.specs.Seen.{volume_seen}
 use Rattle.o2_extent.specs.Reads.{OnlyReads}
 use Rattle.o2_extent.specs.Readings.{leaf_of}
+use Rattle.o2_extent.specs.Rising.{AreRising}
 use Rattle.o2_extent.proofs.pieces.add_bytes.Given as goal
 
 abbrev pub invariant-loop-next : goal.invariant-loop-next
 invariant-loop-next g l = record {
-  bytes : (I : Image) → (view_state l.fn.view).content ≡ Some I → (rs : List ExtentRec) → l.leaves ≡ map leaf_of rs
+  bytes : (I : Image) → (view_state l.fn.view).content ≡ Some I → (rs : List ExtentRec) → l.leaves ≡ map leaf_of rs → AreRising l.leaves
       → l.out.items ≡ l.fn.out.items ++ map (byte_of (volume_seen l.geo I) rs) (range_with_len l.at (l.next - l.at));
   low : l.at ≤ l.next;
   high : l.next ≤ l.end;
