@@ -51,14 +51,20 @@ reading_rises v m (suc depth) holder low (r ∷ rs) t h =
       ]
     ]
 
-pub records_rise : (v : Volume) (b : ℕ) → AreRising (map leaf_of (leaf_records v b))
+record Rise (t : Extents) : Type 0 where
+  rising : AreRising (map leaf_of t.leaves)
+
+extents_rise : (v : Volume) (b : ℕ) → Rise (extents v b)
 unfolding extents
-records_rise v b =
+extents_rise v b =
     let list = extent_list 0xc0 (v.at b) in
     elim (cases_Bool (has_list v b)) [
-      | inr none ↦ rw none tt
+      | inr none ↦ rw none (record { rising = tt })
       | inl has ↦ elim (cases_Bool (is_sound_header (most_in_dinode v) list.header)) [
-        | inr bad ↦ rw (has, bad) tt
-        | inl sound ↦ rw (has, sound) (reading_rises v (most_flags v b) list.header.tree_depth b 0 list.records nothing_read tt)
+        | inr bad ↦ rw (has, bad) (record { rising = tt })
+        | inl sound ↦ rw (has, sound) (record { rising = reading_rises v (most_flags v b) list.header.tree_depth b 0 list.records nothing_read tt })
       ]
     ]
+
+pub records_rise : (v : Volume) (b : ℕ) → AreRising (map leaf_of (leaf_records v b))
+records_rise v b = (extents_rise v b).rising

@@ -35,4 +35,4 @@ returns-in_ok-put_zeros-in-None-clause-bytes g c I told rising =
 
 pub returns-in_ok-put_zeros-in-None-clause-long : goal.returns-in_ok-put_zeros-in-None-clause-long
 returns-in_ok-put_zeros-in-None-clause-long g c =
-    omega (arith, ap length c.in_ok-put_zeros-in-None.ensures, length-append c.args.out.now.items (replicate c.args.count 0), length-replicate c.args.count 0)
+    omega (arith, ap length c.in_ok-put_zeros-in-None.ensures, length-append c.args.out.now.items (replicate {A = ℕ} c.args.count 0), length-replicate {A = ℕ} c.args.count 0)
