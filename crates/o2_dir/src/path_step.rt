@@ -1,5 +1,6 @@
 // One step of a path.
 ghost use Rattle.std.specs.Prelude.{◌≡◌, ◌^◌, ◌<◌, ◌≤◌, ℕ, length, true, false, Some, IfOk, IsErrOf};
+ghost use Rattle.std.specs.Option.{IfNone, IfSome};
 ghost use Rattle.std.specs.Result.{IfErr};
 ghost use Rattle.o2_disk.specs.Image.{Image};
 ghost use Rattle.o2_disk.specs.Device.{Rose};
@@ -20,7 +21,7 @@ use o2_disk::Disk;
 use o2_extent::{block_bytes, look, volume_blocks};
 use o2_model::{Check, Geo};
 use o2_ondisk::read_dinode;
-use o2_view::{View, ViewFault};
+use o2_view::{Block, View, ViewFault};
 use std::alloc::Global;
 
 /// Whether the dinode at block `inode` is a directory's.
@@ -61,6 +62,30 @@ pub fn is_valid_at<D: Disk, const N: usize>(
     Ok(is_valid_dinode(geo, b, &dinode))
 }
 
+/// The block of the inode, where it is a directory.
+fn directory_block<D: Disk, const N: usize>(
+    view: &mut View<'_, D, N>,
+    geo: &Geo,
+    inode: u64,
+) -> Result<Option<Block>, ViewFault>
+    requires geo { LiesIn geo.now view.old }
+    requires inode { inode < view_blocks view.old }
+    ensures holds { IfOk result (λ found. IfSome found (λ block. (I : Image) → (view_state view.old).content ≡ Some I → block ≡ (volume_seen geo.now I).at inode)) }
+    ensures yes { IfOk result (λ found. IfSome found (λ _. (I : Image) → (view_state view.old).content ≡ Some I → is_directory (volume_seen geo.now I) inode ≡ true)) }
+    ensures size { IfOk result (λ found. IfSome found (λ block. length block ≡ 2 ^ geo.now.block_bits)) }
+    ensures long { IfOk result (λ found. IfSome found (λ block. 512 ≤ length block)) }
+    ensures no { IfOk result (λ found. IfNone found ((I : Image) → (view_state view.old).content ≡ Some I → is_directory (volume_seen geo.now I) inode ≡ false)) }
+    ensures reads { OnlyReads view.old view.new }
+    ensures fault { IsErrOf result ViewFault.DeviceFault → Rose (view_state view.old).faults (view_state view.new).faults }
+{
+    let block = look(view, geo, inode)?;
+    let dinode = read_dinode(block.as_slice());
+    if !is_of_directory(&dinode) {
+        return Ok(None);
+    }
+    Ok(Some(block))
+}
+
 /// The inode that the name of a path leads to from the inode before.
 pub fn step<D: Disk, const N: usize>(
     alloc: Global,
@@ -80,12 +105,10 @@ pub fn step<D: Disk, const N: usize>(
     ensures reads { OnlyReads view.old view.new }
     ensures fault { IsErrOf result PathFault.DeviceFault → Rose (view_state view.old).faults (view_state view.new).faults }
 {
-    let block = look(view, geo, inode)?;
-    let bytes = block.as_slice();
-    if !is_of_directory(&read_dinode(bytes)) {
+    let Some(block) = directory_block(view, geo, inode)? else {
         return Err(PathFault::WrongKind);
-    }
-    let entry = look_up_in(alloc, view, geo, inode, bytes, name)?;
+    };
+    let entry = look_up_in(alloc, view, geo, inode, block.as_slice(), name)?;
     if !is_valid_at(view, geo, entry.inode)? {
         return Err(PathFault::Bad {
             check: Check::DirentInode,
