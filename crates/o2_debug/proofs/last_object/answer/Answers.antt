@@ -3,9 +3,9 @@ use Rattle.std.proofs.Common.{ℕ, arith, subst, sym, ◌∙◌}
 use Rattle.std.proofs.lemmas.Result.{IfErr-weaker, on_ok_weaker}
 use Rattle.o2_extent.specs.Seen.{volume_seen}
 use Rattle.o2_extent.proofs.Views.{still_in}
-use Rattle.o2_debug.specs.Answers.{Answers, AnswersSome, BeginsAnswer, FailsFor}
+use Rattle.o2_debug.specs.Answers.{FailsFor}
 use Rattle.o2_debug.specs.Objects.{IsSound}
-use Rattle.o2_debug.proofs.AnswerLemmas.{asked_kind}
+use Rattle.o2_debug.proofs.AnswerLemmas.{asked_kind, answers_as, answers_some_as, begins_as}
 use Rattle.o2_debug.proofs.Judged.{of_own_number}
 use Rattle.o2_debug.proofs.last_object.answer.Goals as goal
 
@@ -41,15 +41,15 @@ returns-then-not-is_for-clause-kind g c is I told = record {
 
 pub returns-clause-all : goal.returns-clause-all
 returns-clause-all g c = on_ok_weaker c.put_answer.result (λ answers I told.
-    subst (λ (b : ℕ). Answers c.args.query.now (volume_seen c.args.geo.now I) b _ _) (c.in_ok-reading.ensures.read I told).number (answers I (c.judge.ensures.reads.reads.content ∙ told))) c.put_answer.ensures.all
+    answers_as c.args.query.now (volume_seen c.args.geo.now I) c.in_ok-reading.reading.inode c.args.inode (c.in_ok-reading.ensures.read I told).number (answers I (c.judge.ensures.reads.reads.content ∙ told))) c.put_answer.ensures.all
 
 pub returns-clause-some : goal.returns-clause-some
 returns-clause-some g c I told =
-    subst (λ (b : ℕ). BeginsAnswer c.args.query.now (volume_seen c.args.geo.now I) b _ _) (c.in_ok-reading.ensures.read I told).number (c.put_answer.ensures.some I (c.judge.ensures.reads.reads.content ∙ told))
+    begins_as c.args.query.now (volume_seen c.args.geo.now I) c.in_ok-reading.reading.inode c.args.inode (c.in_ok-reading.ensures.read I told).number (c.put_answer.ensures.some I (c.judge.ensures.reads.reads.content ∙ told))
 
 pub returns-clause-cut : goal.returns-clause-cut
 returns-clause-cut g c failed I told =
-    subst (λ (b : ℕ). AnswersSome c.args.query.now (volume_seen c.args.geo.now I) b _ _) (c.in_ok-reading.ensures.read I told).number (c.put_answer.ensures.cut failed I (c.judge.ensures.reads.reads.content ∙ told))
+    answers_some_as c.args.query.now (volume_seen c.args.geo.now I) c.in_ok-reading.reading.inode c.args.inode (c.in_ok-reading.ensures.read I told).number (c.put_answer.ensures.cut failed I (c.judge.ensures.reads.reads.content ∙ told))
 
 pub returns-clause-bad : goal.returns-clause-bad
 returns-clause-bad g c =
