@@ -15,7 +15,7 @@ use Rattle.o2_dir.specs.FileData.{HasBytes, DataFailsFirst}
 use Rattle.o2_debug.specs.declared.query.Query.{Query}
 use Rattle.o2_debug.specs.declared.query.Query.TheVariants.{Ls, Stat, Cat}
 use Rattle.o2_debug.specs.Objects.{IsSound}
-use Rattle.o2_debug.specs.Answers.{is_for, IsAnswerable, Answers, IsOfOtherKind, FailsFor}
+use Rattle.o2_debug.specs.Answers.{is_for, IsAnswerable, Answers, AnswersSome, BeginsAnswer, IsOfOtherKind, FailsFor}
 use Rattle.o2_cause.specs.Taken.{Takes}
 use Rattle.o2_debug.specs.Texts.{ls_text, stat_text, cat_text}
 
@@ -82,3 +82,14 @@ module _ (v : Volume) (b : ℕ) (path : List ℕ) (sound : IsSound v b) where
 
   pub no_file : is_file_kind (kind v b) ≡ false → IsOfOtherKind (Cat path) v b
   no_file is = record { sound = sound; kind = is }
+
+-- of the same inode, by another name for its number
+module _ (query : Query) (v : Volume) {old new : SinkState} (m n : ℕ) (same : m ≡ n) where
+  pub answers_as : Answers query v m old new → Answers query v n old new
+  answers_as h = subst (λ (b : ℕ). Answers query v b old new) same h
+
+  pub answers_some_as : AnswersSome query v m old new → AnswersSome query v n old new
+  answers_some_as h = subst (λ (b : ℕ). AnswersSome query v b old new) same h
+
+  pub begins_as : BeginsAnswer query v m old new → BeginsAnswer query v n old new
+  begins_as h = subst (λ (b : ℕ). BeginsAnswer query v b old new) same h

@@ -1,5 +1,7 @@
 -- The faults of readers as those of a query.
 use Rattle.std.specs.Prelude.{◌≡◌}
+use Rattle.o2_view.specs.declared.fault.ViewFault.{ViewFault}
+use Rattle.o2_view.specs.declared.fault.ViewFault.TheVariants as view
 use Rattle.o2_view.specs.declared.fault.ReadFault.{ReadFault}
 use Rattle.o2_view.specs.declared.fault.ReadFault.TheVariants as read
 use Rattle.o2_dir.specs.declared.fault.DirFault.{DirFault}
@@ -8,6 +10,11 @@ use Rattle.o2_dir.specs.declared.fault.PathFault.{PathFault}
 use Rattle.o2_dir.specs.declared.fault.PathFault.TheVariants as path
 use Rattle.o2_debug.specs.declared.fault.DebugFault.{DebugFault}
 use Rattle.o2_debug.specs.declared.fault.DebugFault.TheVariants as debug
+
+-- the fault of the same name
+abbrev pub IsOfView : ViewFault → DebugFault → Type 0
+IsOfView view.NoMemory fault = fault ≡ debug.NoMemory
+IsOfView view.DeviceFault fault = fault ≡ debug.DeviceFault
 
 -- the fault of the same name, with the same check and block
 abbrev pub IsOfRead : ReadFault → DebugFault → Type 0

@@ -2,7 +2,7 @@
 use o2_dir::{DirFault, PathFault};
 use o2_disk::Failed;
 use o2_model::Check;
-use o2_view::ReadFault;
+use o2_view::{ReadFault, ViewFault};
 use std::alloc::AllocError;
 use thiserror::Error;
 
@@ -49,6 +49,19 @@ impl From<Failed> for DebugFault {
 
     fn from(_: Failed) -> Self {
         DebugFault::OutputFault
+    }
+}
+
+impl From<ViewFault> for DebugFault {
+    ghost use Rattle.o2_debug.specs.Faults.{IsOfView};
+
+    ghost from_gives = { IsOfView };
+
+    fn from(fault: ViewFault) -> Self {
+        match fault {
+            ViewFault::NoMemory => DebugFault::NoMemory,
+            ViewFault::DeviceFault => DebugFault::DeviceFault,
+        }
     }
 }
 

@@ -6,18 +6,20 @@ ghost use Rattle.o2_disk.specs.Device.{Rose};
 ghost use Rattle.o2_disk.specs.Output.{FailsLast};
 ghost use Rattle.o2_view.specs.Views.{view_state, view_blocks};
 ghost use Rattle.o2_model.specs.declared.check.Check.{Check};
-ghost use Rattle.o2_model.specs.Volume.{is_valid, dinode};
+ghost use Rattle.o2_model.specs.Volume.{is_valid};
 ghost use Rattle.o2_model.specs.Inodes.{kind};
 ghost use Rattle.o2_ondisk.specs.Kinds.{kind_of_mode};
 ghost use Rattle.o2_extent.specs.Seen.{LiesIn, volume_seen};
 ghost use Rattle.o2_extent.specs.Reads.{OnlyReads};
+ghost use Rattle.o2_dir.specs.InodeReadings.{Fits, TellsSound};
 ghost use Rattle.o2_debug.specs.Answers.{is_for as is_for_kind, IsOfOtherKind, FailsFor, Answers, AnswersSome, BeginsAnswer};
 ghost use Rattle.o2_debug.specs.Objects.{IsSound};
 
 use crate::cat::put_file;
-use crate::object::{is_of_directory, is_of_file, judge};
+use crate::object::judge;
 use crate::put::{put_ls, put_stat};
 use crate::{DebugFault, Query};
+use o2_dir::{InodeReading, is_of_directory, is_of_file};
 use o2_disk::{Disk, Sink};
 use o2_model::Geo;
 use o2_ondisk::Dinode;
@@ -35,28 +37,25 @@ fn is_for(query: &Query, d: &Dinode) -> bool
     }
 }
 
-/// Puts the text of a sound inode that the query is for, whose dinode is `d`. Bad where entries are asked for and DIR_BLOCK fails.
+/// Puts the text of a sound inode that was read, and that the query is for. Bad where entries are asked for and DIR_BLOCK fails.
 fn put_answer<D: Disk, K: Sink, const N: usize>(
     alloc: Global,
     view: &mut View<'_, D, N>,
     geo: &Geo,
     query: &Query,
-    inode: u64,
-    d: &Dinode,
+    reading: &InodeReading,
     out: &mut K,
 ) -> Result<(), DebugFault>
     requires geo { LiesIn geo.now view.old }
-    requires inode { inode < view_blocks view.old }
-    requires sysdir { geo.now.sysdir < view_blocks view.old }
-    requires valid { (I : Image) → (view_state view.old).content ≡ Some I → is_valid (volume_seen geo.now I) inode ≡ true }
-    requires dinode { (I : Image) → (view_state view.old).content ≡ Some I → d.now ≡ dinode (volume_seen geo.now I) inode }
-    requires sound { (I : Image) → (view_state view.old).content ≡ Some I → IsSound (volume_seen geo.now I) inode }
-    requires asked { (I : Image) → (view_state view.old).content ≡ Some I → is_for_kind query.now (kind (volume_seen geo.now I) inode) ≡ true }
-    ensures all { OnOk result ((I : Image) → (view_state view.old).content ≡ Some I → Answers query.now (volume_seen geo.now I) inode (K.state out.old) (K.state out.new)) }
-    ensures some { (I : Image) → (view_state view.old).content ≡ Some I → BeginsAnswer query.now (volume_seen geo.now I) inode (K.state out.old) (K.state out.new) }
-    ensures cut { IsErrOf result DebugFault.OutputFault → (I : Image) → (view_state view.old).content ≡ Some I → AnswersSome query.now (volume_seen geo.now I) inode (K.state out.old) (K.state out.new) }
+    requires fits { Fits geo.now reading.now }
+    requires read { (I : Image) → (view_state view.old).content ≡ Some I → TellsSound (volume_seen geo.now I) reading.now.inode reading.now }
+    requires sound { (I : Image) → (view_state view.old).content ≡ Some I → IsSound (volume_seen geo.now I) reading.now.inode }
+    requires asked { (I : Image) → (view_state view.old).content ≡ Some I → is_for_kind query.now (kind (volume_seen geo.now I) reading.now.inode) ≡ true }
+    ensures all { OnOk result ((I : Image) → (view_state view.old).content ≡ Some I → Answers query.now (volume_seen geo.now I) reading.now.inode (K.state out.old) (K.state out.new)) }
+    ensures some { (I : Image) → (view_state view.old).content ≡ Some I → BeginsAnswer query.now (volume_seen geo.now I) reading.now.inode (K.state out.old) (K.state out.new) }
+    ensures cut { IsErrOf result DebugFault.OutputFault → (I : Image) → (view_state view.old).content ≡ Some I → AnswersSome query.now (volume_seen geo.now I) reading.now.inode (K.state out.old) (K.state out.new) }
     ensures bad { IfErr result (λ fault. (check : Check) (b : ℕ) → fault ≡ DebugFault.Bad check b → (I : Image) → (view_state view.old).content ≡ Some I
-        → FailsFor query.now (volume_seen geo.now I) inode check b) }
+        → FailsFor query.now (volume_seen geo.now I) reading.now.inode check b) }
     ensures untouched { IfErr result (λ fault. (check : Check) (b : ℕ) → fault ≡ DebugFault.Bad check b → (I : Image) → (view_state view.old).content ≡ Some I → out.new ≡ out.old) }
     ensures kind { IsErrOf result DebugFault.WrongKind → ⊥ }
     ensures absent { IsErrOf result DebugFault.Absent → ⊥ }
@@ -66,9 +65,9 @@ fn put_answer<D: Disk, K: Sink, const N: usize>(
     ensures quiet { (IsErrOf result DebugFault.OutputFault → ⊥) → (K.state out.new).faults ≡ (K.state out.old).faults }
 {
     match query {
-        Query::Ls { .. } => put_ls(alloc, view, geo, inode, out),
-        Query::Stat { .. } => put_stat(alloc, view, geo, inode, d, out),
-        Query::Cat { .. } => put_file(alloc, view, geo, inode, d.size, out),
+        Query::Ls { .. } => put_ls(alloc, view, geo, reading, out),
+        Query::Stat { .. } => put_stat(alloc, reading, out),
+        Query::Cat { .. } => put_file(alloc, view, geo, reading, out),
     }
 }
 
@@ -100,9 +99,9 @@ pub fn answer<D: Disk, K: Sink, const N: usize>(
     ensures output { IsErrOf result DebugFault.OutputFault → FailsLast (K.state out.old) (K.state out.new) }
     ensures quiet { (IsErrOf result DebugFault.OutputFault → ⊥) → (K.state out.new).faults ≡ (K.state out.old).faults }
 {
-    let d = judge(alloc, view, geo, inode)?;
-    if !is_for(query, &d) {
+    let reading = judge(alloc, view, geo, inode)?;
+    if !is_for(query, &reading.dinode) {
         return Err(DebugFault::WrongKind);
     }
-    put_answer(alloc, view, geo, query, inode, &d, out)
+    put_answer(alloc, view, geo, query, &reading, out)
 }

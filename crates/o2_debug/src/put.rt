@@ -1,19 +1,18 @@
 // The text of `ls` and of `stat`, put on a sink.
-ghost use Rattle.std.specs.Prelude.{◌≡◌, ◌⊎◌, ◌<◌, ℕ, true, Some, OnOk, OnErr, IsErrOf};
+ghost use Rattle.std.specs.Prelude.{◌≡◌, ◌⊎◌, ℕ, true, Some, OnOk, OnErr, IsErrOf};
 ghost use Rattle.std.specs.List.{concat};
 ghost use Rattle.std.specs.Result.{IfErr};
 ghost use Rattle.o2_disk.specs.Image.{Image};
 ghost use Rattle.o2_disk.specs.Device.{Rose, HasCause};
 ghost use Rattle.o2_disk.specs.Output.{FailsLast};
-ghost use Rattle.o2_view.specs.Views.{view_state, view_blocks};
+ghost use Rattle.o2_view.specs.Views.{view_state};
 ghost use Rattle.o2_model.specs.declared.check.Check.{Check};
-ghost use Rattle.o2_model.specs.Volume.{dinode};
-ghost use Rattle.o2_model.specs.Words.{IsLeast};
-ghost use Rattle.o2_model.specs.Checks.Extent.{extent_faults};
+ghost use Rattle.o2_model.specs.Volume.{Volume};
 ghost use Rattle.o2_model.specs.Inodes.{is_directory};
 ghost use Rattle.o2_extent.specs.Seen.{LiesIn, volume_seen};
 ghost use Rattle.o2_extent.specs.Reads.{OnlyReads};
 ghost use Rattle.o2_dir.specs.Fails.{FailsNone, FailsFirst};
+ghost use Rattle.o2_dir.specs.InodeReadings.{Fits, TellsSound};
 ghost use Rattle.o2_cause.specs.Taken.{Takes, TakesSome};
 ghost use Rattle.o2_debug.specs.Texts.{ls_text, stat_text};
 
@@ -21,9 +20,9 @@ use crate::DebugFault;
 use crate::lines::Lines;
 use o2_cause::put_lines;
 use crate::text::{ls_lines, stat_lines};
+use o2_dir::InodeReading;
 use o2_disk::{Disk, Sink};
 use o2_model::Geo;
-use o2_ondisk::Dinode;
 use o2_view::View;
 use std::alloc::Global;
 
@@ -41,25 +40,26 @@ fn put_all<K: Sink>(out: &mut K, lines: &Lines) -> Result<(), DebugFault>
     }
 }
 
-/// Answers `ls` of a directory. Bad where EXTENT, INODE_SIZE or DIR_BLOCK fails for it.
+/// Answers `ls` of a directory that was read before. Bad where DIR_BLOCK fails for it.
 pub fn put_ls<D: Disk, K: Sink, const N: usize>(
     alloc: Global,
     view: &mut View<'_, D, N>,
     geo: &Geo,
-    inode: u64,
+    reading: &InodeReading,
     out: &mut K,
 ) -> Result<(), DebugFault>
     requires geo { LiesIn geo.now view.old }
-    requires inode { inode < view_blocks view.old }
-    requires directory { (I : Image) → (view_state view.old).content ≡ Some I → is_directory (volume_seen geo.now I) inode ≡ true }
-    ensures all { OnOk result ((I : Image) → (view_state view.old).content ≡ Some I → Takes (K.state out.old) (K.state out.new) (ls_text (volume_seen geo.now I) inode)) }
+    requires fits { Fits geo.now reading.now }
+    requires sound { (I : Image) → (view_state view.old).content ≡ Some I → TellsSound (volume_seen geo.now I) reading.now.inode reading.now }
+    requires directory { (I : Image) → (view_state view.old).content ≡ Some I → is_directory (volume_seen geo.now I) reading.now.inode ≡ true }
+    ensures all { OnOk result ((I : Image) → (view_state view.old).content ≡ Some I → Takes (K.state out.old) (K.state out.new) (ls_text (volume_seen geo.now I) reading.now.inode)) }
     ensures some { (I : Image) → (view_state view.old).content ≡ Some I
-        → (K.state out.new ≡ K.state out.old) ⊎ (FailsNone (volume_seen geo.now I) inode × TakesSome (K.state out.old) (K.state out.new) (ls_text (volume_seen geo.now I) inode)) }
+        → (K.state out.new ≡ K.state out.old) ⊎ (FailsNone (volume_seen geo.now I) reading.now.inode × TakesSome (K.state out.old) (K.state out.new) (ls_text (volume_seen geo.now I) reading.now.inode)) }
     ensures cut { IsErrOf result DebugFault.OutputFault → (I : Image) → (view_state view.old).content ≡ Some I
-        → FailsNone (volume_seen geo.now I) inode × TakesSome (K.state out.old) (K.state out.new) (ls_text (volume_seen geo.now I) inode) }
-    ensures sound { OnOk result ((I : Image) → (view_state view.old).content ≡ Some I → FailsNone (volume_seen geo.now I) inode) }
+        → FailsNone (volume_seen geo.now I) reading.now.inode × TakesSome (K.state out.old) (K.state out.new) (ls_text (volume_seen geo.now I) reading.now.inode) }
+    ensures sound { OnOk result ((I : Image) → (view_state view.old).content ≡ Some I → FailsNone (volume_seen geo.now I) reading.now.inode) }
     ensures bad { IfErr result (λ fault. (check : Check) (b : ℕ) → fault ≡ DebugFault.Bad check b → (I : Image) → (view_state view.old).content ≡ Some I
-        → FailsFirst (volume_seen geo.now I) inode check b) }
+        → FailsFirst (volume_seen geo.now I) reading.now.inode check b) }
     ensures untouched { IfErr result (λ fault. (check : Check) (b : ℕ) → fault ≡ DebugFault.Bad check b → out.new ≡ out.old) }
     ensures kind { IsErrOf result DebugFault.WrongKind → ⊥ }
     ensures absent { IsErrOf result DebugFault.Absent → ⊥ }
@@ -68,34 +68,25 @@ pub fn put_ls<D: Disk, K: Sink, const N: usize>(
     ensures output { IsErrOf result DebugFault.OutputFault → FailsLast (K.state out.old) (K.state out.new) }
     ensures quiet { (IsErrOf result DebugFault.OutputFault → ⊥) → (K.state out.new).faults ≡ (K.state out.old).faults }
 {
-    let lines = ls_lines(alloc, view, geo, inode)?;
+    let lines = ls_lines(alloc, view, geo, reading)?;
     put_all(out, &lines)
 }
 
-/// Answers `stat` of an inode, whose dinode is `d`. Bad where EXTENT fails for it.
-pub fn put_stat<D: Disk, K: Sink, const N: usize>(
+/// Answers `stat` of an inode that was read.
+pub fn put_stat<K: Sink>(
     alloc: Global,
-    view: &mut View<'_, D, N>,
-    geo: &Geo,
-    inode: u64,
-    d: &Dinode,
+    reading: &InodeReading,
     out: &mut K,
 ) -> Result<(), DebugFault>
-    requires geo { LiesIn geo.now view.old }
-    requires inode { inode < view_blocks view.old }
-    requires dinode { (I : Image) → (view_state view.old).content ≡ Some I → d.now ≡ dinode (volume_seen geo.now I) inode }
-    ensures all { OnOk result ((I : Image) → (view_state view.old).content ≡ Some I → Takes (K.state out.old) (K.state out.new) (stat_text (volume_seen geo.now I) inode)) }
-    ensures some { (I : Image) → (view_state view.old).content ≡ Some I → TakesSome (K.state out.old) (K.state out.new) (stat_text (volume_seen geo.now I) inode) }
-    ensures bad { IfErr result (λ fault. (check : Check) (b : ℕ) → fault ≡ DebugFault.Bad check b
-        → (check ≡ Check.Extent) × ((I : Image) → (view_state view.old).content ≡ Some I → IsLeast b (extent_faults (volume_seen geo.now I) inode))) }
-    ensures untouched { IfErr result (λ fault. (check : Check) (b : ℕ) → fault ≡ DebugFault.Bad check b → out.new ≡ out.old) }
+    ensures all { OnOk result ((v : Volume) → TellsSound v reading.now.inode reading.now → Takes (K.state out.old) (K.state out.new) (stat_text v reading.now.inode)) }
+    ensures some { (v : Volume) → TellsSound v reading.now.inode reading.now → TakesSome (K.state out.old) (K.state out.new) (stat_text v reading.now.inode) }
+    ensures bad { IfErr result (λ fault. (check : Check) (b : ℕ) → fault ≡ DebugFault.Bad check b → ⊥) }
     ensures kind { IsErrOf result DebugFault.WrongKind → ⊥ }
     ensures absent { IsErrOf result DebugFault.Absent → ⊥ }
-    ensures reads { OnlyReads view.old view.new }
-    ensures fault { IsErrOf result DebugFault.DeviceFault → Rose (view_state view.old).faults (view_state view.new).faults }
+    ensures fault { IsErrOf result DebugFault.DeviceFault → ⊥ }
     ensures output { IsErrOf result DebugFault.OutputFault → FailsLast (K.state out.old) (K.state out.new) }
     ensures quiet { (IsErrOf result DebugFault.OutputFault → ⊥) → (K.state out.new).faults ≡ (K.state out.old).faults }
 {
-    let lines = stat_lines(alloc, view, geo, inode, d)?;
+    let lines = stat_lines(alloc, reading)?;
     put_all(out, &lines)
 }

@@ -8,6 +8,8 @@ use std::alloc::Global;
 use std::process::Abort;
 use std::test::Fail;
 
+mod reads;
+
 fn volume(rt: &impl Abort, alloc: Global) -> Result<MemDisk, Fail> {
     let mut disk = MemDisk::new(alloc, 128)?;
     disk.attach(alloc, "made", How::ReadWrite)?;
@@ -30,7 +32,7 @@ fn answered(
     assert!(rt; geo.block_bits >= 9);
     assert!(rt; geo.block_bits <= 12);
     assert!(rt; is_path(query.path()));
-    match ask(alloc, disk, &geo, query, out) {
+    match ask::<MemDisk, MemSink, 1>(alloc, disk, &geo, query, out) {
         Ok(()) => Ok(None),
         Err(fault) => Ok(Some(fault)),
     }

@@ -1,49 +1,49 @@
 // The text of `ls` and of `stat`, line by line.
-ghost use Rattle.std.specs.Prelude.{◌≡◌, ◌++◌, ◌<◌, ℕ, true, map, Some, IfOk, IsErrOf};
+ghost use Rattle.std.specs.Prelude.{◌≡◌, ◌++◌, ℕ, true, map, Some, IfOk, IsErrOf};
 ghost use Rattle.std.specs.List.{concat};
 ghost use Rattle.std.specs.Result.{IfErr};
 ghost use Rattle.o2_disk.specs.Image.{Image};
 ghost use Rattle.o2_disk.specs.Device.{Rose};
-ghost use Rattle.o2_view.specs.Views.{view_state, view_blocks};
+ghost use Rattle.o2_view.specs.Views.{view_state};
 ghost use Rattle.o2_model.specs.declared.check.Check.{Check};
-ghost use Rattle.o2_model.specs.Volume.{dinode};
-ghost use Rattle.o2_model.specs.Words.{IsLeast};
+ghost use Rattle.o2_model.specs.Volume.{Volume};
 ghost use Rattle.o2_model.specs.Inodes.{is_directory};
-ghost use Rattle.o2_model.specs.Checks.Extent.{extent_faults};
 ghost use Rattle.o2_extent.specs.Seen.{LiesIn, volume_seen};
 ghost use Rattle.o2_extent.specs.Reads.{OnlyReads};
 ghost use Rattle.o2_dir.specs.Fails.{FailsNone, FailsFirst};
+ghost use Rattle.o2_dir.specs.InodeReadings.{Fits, TellsSound};
 ghost use Rattle.o2_debug.specs.Lines.{dinode_lines as lines_of_dinode, extent_line};
 ghost use Rattle.o2_debug.specs.Texts.{ls_text, stat_text};
 
 use crate::lines::{Lines, dinode_lines, entry_lines, extent_lines};
-use o2_dir::{DirFault, entries};
+use o2_dir::{DirFault, InodeReading, entries_of};
 use o2_disk::Disk;
-use o2_extent::{Leaf, records};
+use o2_extent::Leaf;
 use o2_model::Geo;
 use o2_ondisk::Dinode;
-use o2_view::{ReadFault, View};
+use o2_view::View;
 use std::alloc::{AllocError, Global};
 
-/// The lines of `ls` of a directory. Bad where EXTENT, INODE_SIZE or DIR_BLOCK fails for it.
+/// The lines of `ls` of a directory that was read before. Bad where DIR_BLOCK fails for it.
 pub fn ls_lines<D: Disk, const N: usize>(
     alloc: Global,
     view: &mut View<'_, D, N>,
     geo: &Geo,
-    inode: u64,
+    reading: &InodeReading,
 ) -> Result<Lines, DirFault>
     requires geo { LiesIn geo.now view.old }
-    requires inode { inode < view_blocks view.old }
-    requires directory { (I : Image) → (view_state view.old).content ≡ Some I → is_directory (volume_seen geo.now I) inode ≡ true }
-    ensures text { IfOk result (λ lines. (I : Image) → (view_state view.old).content ≡ Some I → concat lines ≡ ls_text (volume_seen geo.now I) inode) }
-    ensures sound { IfOk result (λ _. (I : Image) → (view_state view.old).content ≡ Some I → FailsNone (volume_seen geo.now I) inode) }
+    requires fits { Fits geo.now reading.now }
+    requires sound { (I : Image) → (view_state view.old).content ≡ Some I → TellsSound (volume_seen geo.now I) reading.now.inode reading.now }
+    requires directory { (I : Image) → (view_state view.old).content ≡ Some I → is_directory (volume_seen geo.now I) reading.now.inode ≡ true }
+    ensures text { IfOk result (λ lines. (I : Image) → (view_state view.old).content ≡ Some I → concat lines ≡ ls_text (volume_seen geo.now I) reading.now.inode) }
+    ensures sound { IfOk result (λ _. (I : Image) → (view_state view.old).content ≡ Some I → FailsNone (volume_seen geo.now I) reading.now.inode) }
     ensures bad { IfErr result (λ fault. (check : Check) (b : ℕ) → fault ≡ DirFault.Bad check b → (I : Image) → (view_state view.old).content ≡ Some I
-        → FailsFirst (volume_seen geo.now I) inode check b) }
+        → FailsFirst (volume_seen geo.now I) reading.now.inode check b) }
     ensures present { IsErrOf result DirFault.Absent → ⊥ }
     ensures reads { OnlyReads view.old view.new }
     ensures fault { IsErrOf result DirFault.DeviceFault → Rose (view_state view.old).faults (view_state view.new).faults }
 {
-    let found = entries(alloc, view, geo, inode)?;
+    let found = entries_of(alloc, view, geo, reading)?;
     match entry_lines(alloc, found.as_slice()) {
         Ok(lines) => Ok(lines),
         Err(_) => Err(DirFault::NoMemory),
@@ -60,28 +60,16 @@ fn joined(first: Lines, others: Lines) -> Result<Lines, AllocError>
     Ok(Lines::from(lines))
 }
 
-/// The lines of `stat` of an inode, whose dinode is `d`. Bad where EXTENT fails for it.
-pub fn stat_lines<D: Disk, const N: usize>(
-    alloc: Global,
-    view: &mut View<'_, D, N>,
-    geo: &Geo,
-    inode: u64,
-    d: &Dinode,
-) -> Result<Lines, ReadFault>
-    requires geo { LiesIn geo.now view.old }
-    requires inode { inode < view_blocks view.old }
-    requires dinode { (I : Image) → (view_state view.old).content ≡ Some I → d.now ≡ dinode (volume_seen geo.now I) inode }
-    ensures text { IfOk result (λ lines. (I : Image) → (view_state view.old).content ≡ Some I → concat lines ≡ stat_text (volume_seen geo.now I) inode) }
-    ensures bad { IfErr result (λ fault. (check : Check) (b : ℕ) → fault ≡ ReadFault.Bad check b
-        → (check ≡ Check.Extent) × ((I : Image) → (view_state view.old).content ≡ Some I → IsLeast b (extent_faults (volume_seen geo.now I) inode))) }
-    ensures reads { OnlyReads view.old view.new }
-    ensures fault { IsErrOf result ReadFault.DeviceFault → Rose (view_state view.old).faults (view_state view.new).faults }
+/// The lines of `stat` of an inode that was read.
+pub fn stat_lines(alloc: Global, reading: &InodeReading) -> Result<Lines, AllocError>
+    ensures { IfOk result (λ lines. (v : Volume) → TellsSound v reading.now.inode reading.now → concat lines ≡ stat_text v reading.now.inode) }
 {
-    let leaves = records(alloc, view, geo, inode)?;
-    match told_lines(alloc, inode, d, leaves.as_slice()) {
-        Ok(lines) => Ok(lines),
-        Err(_) => Err(ReadFault::NoMemory),
-    }
+    told_lines(
+        alloc,
+        reading.inode,
+        &reading.dinode,
+        reading.leaves.as_slice(),
+    )
 }
 
 // What the dinode and the leaf records say.

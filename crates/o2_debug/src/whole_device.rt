@@ -16,11 +16,9 @@ use o2_model::Geo;
 use o2_view::View;
 use std::alloc::Global;
 
-// How many blocks the reader may keep.
-const KEPT_BLOCKS: usize = 1024;
-
-/// Answers a query on the volume of these numbers, over all whole blocks of the device. The errors are those of `command`.
-pub fn ask<D: Disk, K: Sink>(
+/// Answers a query on the volume of these numbers, over all whole blocks of the device, of which N may be kept. The errors are
+/// those of `command`.
+pub fn ask<D: Disk, K: Sink, const N: usize>(
     alloc: Global,
     device: &mut D,
     geo: &Geo,
@@ -50,7 +48,7 @@ pub fn ask<D: Disk, K: Sink>(
     ensures quiet { (IsErrOf result DebugFault.OutputFault → ⊥) → (K.state out.new).faults ≡ (K.state out.old).faults }
 {
     let blocks = device.sectors() >> (geo.block_bits - 9);
-    let Ok(mut view) = View::<D, KEPT_BLOCKS>::new(alloc, device, geo.block_bits, blocks) else {
+    let Ok(mut view) = View::<D, N>::new(alloc, device, geo.block_bits, blocks) else {
         return Err(DebugFault::NoMemory);
     };
     command(alloc, &mut view, geo, query, out)

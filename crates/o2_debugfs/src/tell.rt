@@ -16,6 +16,9 @@ use o2_dir::PathText;
 use o2_disk::{Disk, How, Sink};
 use std::alloc::Global;
 
+// How many blocks the reader may keep.
+const KEPT_BLOCKS: usize = 1024;
+
 /// Puts the answer to a query on `out`. The device of that name is only read.
 pub fn tell<D: Disk, K: Sink>(
     alloc: Global,
@@ -42,7 +45,7 @@ pub fn tell<D: Disk, K: Sink>(
     ensures calm { OnOk result ((K.state out.new).faults ≡ (K.state out.old).faults) }
 {
     let geo = open_for_reading(alloc, device, name)?;
-    match ask(alloc, device, &geo, &query, out) {
+    match ask::<D, K, KEPT_BLOCKS>(alloc, device, &geo, &query, out) {
         Ok(()) => Ok(()),
         Err(fault) => Err(cause_for(fault, query)),
     }

@@ -11,7 +11,7 @@ use Rattle.o2_ondisk.specs.declared.kind.Kind.TheVariants.{File, Directory, Char
 use Rattle.o2_model.specs.Words.{among}
 use Rattle.o2_model.specs.Volume.{Volume, block_size, dinode}
 use Rattle.o2_model.specs.Clusters.{cluster_size}
-use Rattle.o2_model.specs.Inodes.{kind, is_inline, is_file, is_link, is_file_kind, is_link_kind, has_fast_text, leaf_records}
+use Rattle.o2_model.specs.Inodes.{kind, is_inline, is_directory, is_directory_kind, is_file_kind, is_link_kind, has_fast_text, leaf_records}
 use Rattle.o2_model.specs.Directories.{own_inodes}
 use Rattle.o2_model.specs.Contents.{maps_cluster}
 use Rattle.o2_model.specs.Checks.InodeSize.{is_link_size, is_file_size, is_size_of_kind, has_sound_size}
@@ -29,15 +29,25 @@ of_link v b (Some Block) h = cc
 of_link v b (Some Fifo) h = cc
 of_link v b (Some Socket) h = cc
 
-of_file : (v : Volume) (b : ℕ) (k : Option Kind) → is_link_kind k ≡ false → (is_file_kind k || is_link_kind k) ≡ true → is_size_of_kind v b k ≡ is_file_size v b
-of_file v b None n h = cc
-of_file v b (Some File) n h = refl
-of_file v b (Some Link) n h = cc
-of_file v b (Some Directory) n h = cc
-of_file v b (Some Character) n h = cc
-of_file v b (Some Block) n h = cc
-of_file v b (Some Fifo) n h = cc
-of_file v b (Some Socket) n h = cc
+of_file : (v : Volume) (b : ℕ) (k : Option Kind) → is_file_kind k ≡ true → is_size_of_kind v b k ≡ is_file_size v b
+of_file v b None h = cc
+of_file v b (Some File) h = refl
+of_file v b (Some Link) h = cc
+of_file v b (Some Directory) h = cc
+of_file v b (Some Character) h = cc
+of_file v b (Some Block) h = cc
+of_file v b (Some Fifo) h = cc
+of_file v b (Some Socket) h = cc
+
+of_other : (v : Volume) (b : ℕ) (k : Option Kind) → is_link_kind k ≡ false → is_directory_kind k ≡ false → is_file_kind k ≡ false → true ≡ is_size_of_kind v b k
+of_other v b None link directory file = refl
+of_other v b (Some File) link directory file = cc
+of_other v b (Some Link) link directory file = cc
+of_other v b (Some Directory) link directory file = cc
+of_other v b (Some Character) link directory file = refl
+of_other v b (Some Block) link directory file = refl
+of_other v b (Some Fifo) link directory file = refl
+of_other v b (Some Socket) link directory file = refl
 
 -- ---- what a reader is told
 pub inline_size : (v : Volume) (b size : ℕ) (bytes : List ℕ) → bytes ≡ v.at b → length bytes ≡ block_size v → size ≡ (dinode v b).size → is_inline v b ≡ true
@@ -62,14 +72,23 @@ link_size v b d bytes leaves read long tells outside link = rw outside
     (link_size_is (length bytes) (block_size v) d (dinode v b) leaves (leaf_records v b) (tells ∙ ap dinode_of read.holds) long read.are
     ∙ sym (of_link v b (kind v b) link))
 
-pub file_size : (v : Volume) (b size : ℕ) → size ≡ (dinode v b).size → is_inline v b ≡ false → is_link_kind (kind v b) ≡ false → (is_file v b || is_link v b) ≡ true
+pub file_size : (v : Volume) (b size : ℕ) → size ≡ (dinode v b).size → is_inline v b ≡ false → is_file_kind (kind v b) ≡ true
     → (nat_le size (cluster_size v * 2 ^ 32) || among (own_inodes v) b) ≡ has_sound_size v b
-unfolding has_sound_size is_file is_link
-file_size v b size tells outside other kinds = rw outside
+unfolding has_sound_size
+file_size v b size tells outside file = rw outside
     (ap (λ k. nat_le k (cluster_size v * 2 ^ 32) || among (own_inodes v) b) tells
-    ∙ sym (of_file v b (kind v b) other kinds))
+    ∙ sym (of_file v b (kind v b) file))
 
-pub link_told : (bytes at : List ℕ) (d : Dinode) (told_of is : Bool) → bytes ≡ at → d ≡ dinode_of bytes → told_of ≡ is_link_kind (kind_of_mode d.mode) → told_of ≡ is → is_link_kind (kind_of_mode (dinode_of at).mode) ≡ is
-link_told bytes at d told_of is holds dinode_is tells tested =
-    ap (λ bs. is_link_kind (kind_of_mode (dinode_of bs).mode)) (sym holds)
-    ∙ (ap (λ (x : Dinode). is_link_kind (kind_of_mode x.mode)) (sym dinode_is) ∙ (sym tells ∙ tested))
+pub other_size : (v : Volume) (b : ℕ) → is_inline v b ≡ false → is_link_kind (kind v b) ≡ false → is_directory_kind (kind v b) ≡ false → is_file_kind (kind v b) ≡ false → true ≡ has_sound_size v b
+unfolding has_sound_size
+other_size v b outside link directory file = rw outside (of_other v b (kind v b) link directory file)
+
+pub directory_is : (v : Volume) (b : ℕ) → is_directory_kind (kind v b) ≡ true → is_directory v b ≡ true
+unfolding is_directory
+directory_is v b h = h
+
+-- what a test of the dinode's kind says of the inode's
+pub kind_test_told : (test : Option Kind → Bool) (bytes at : List ℕ) (d : Dinode) (told_of is : Bool) → bytes ≡ at → d ≡ dinode_of bytes → told_of ≡ test (kind_of_mode d.mode) → told_of ≡ is → test (kind_of_mode (dinode_of at).mode) ≡ is
+kind_test_told test bytes at d told_of is holds dinode_is tells tested =
+    ap (λ bs. test (kind_of_mode (dinode_of bs).mode)) (sym holds)
+    ∙ (ap (λ (x : Dinode). test (kind_of_mode x.mode)) (sym dinode_is) ∙ (sym tells ∙ tested))

@@ -5,19 +5,21 @@ ghost use Rattle.std.specs.Result.{IfErr};
 ghost use Rattle.o2_disk.specs.Image.{Image};
 ghost use Rattle.o2_disk.specs.Device.{Rose};
 ghost use Rattle.o2_view.specs.Views.{view_state, view_blocks};
+ghost use Rattle.o2_model.specs.declared.check.Check.{Check};
 ghost use Rattle.o2_model.specs.Contents.{byte_of, bytes_of};
 ghost use Rattle.o2_extent.specs.Seen.{LiesIn, volume_seen};
 ghost use Rattle.o2_extent.specs.Reads.{OnlyReads};
 ghost use Rattle.o2_extent.specs.Readings.{Within};
+ghost use Rattle.o2_extent.specs.Rising.{AreRising};
 ghost use Rattle.o2_dir.specs.Fails.{IsRead};
 ghost use Rattle.o2_dir.specs.FileData.{HasBytes, IsSoundData, DataFailsFirst};
+ghost use Rattle.o2_dir.specs.InodeReadings.{Fits, TellsSound};
 
-use crate::file_size::has_sound_size;
+use crate::inode_reading::{InodeReading, sound_inode_in};
 use crate::parts::{behind, first};
-use crate::sound_inode::sound_inode;
 use o2_disk::Disk;
-use o2_extent::{Leaf, add_bytes, is_fast_link, is_inline};
-use o2_model::{Check, Geo};
+use o2_extent::{Leaf, add_bytes, is_fast_link, is_inline, look};
+use o2_model::Geo;
 use o2_ondisk::read_dinode;
 use o2_view::{Bytes, ReadFault, View, ViewFault};
 use std::alloc::{AllocError, Global};
@@ -61,7 +63,7 @@ fn read_mapped<D: Disk, const N: usize>(
 ) -> Result<Vec<u8>, ViewFault>
     requires geo { LiesIn geo.now view.old }
     requires within { Within geo.now leaves.now }
-    ensures bytes { IfOk result (λ out. (I : Image) → (view_state view.old).content ≡ Some I
+    ensures bytes { IfOk result (λ out. (I : Image) → (view_state view.old).content ≡ Some I → AreRising leaves.now
         → out.items ≡ take len (drop at (map (byte_of (volume_seen geo.now I) leaves.now) (range_with_len 0 size)))) }
     ensures reads { OnlyReads view.old view.new }
     ensures fault { IsErrOf result ViewFault.DeviceFault → Rose (view_state view.old).faults (view_state view.new).faults }
@@ -101,7 +103,28 @@ fn read_data<D: Disk, const N: usize>(
     read_mapped(alloc, view, geo, leaves, dinode.size, at, len)
 }
 
-#[tactic(auto, unfolding(crate::specs::FileData::DataFailsFirst))]
+/// The bytes of a file or link that was read before, from byte `at` on: `len` of them, or fewer where it ends before.
+pub fn part_of_file<D: Disk, const N: usize>(
+    alloc: Global,
+    view: &mut View<'_, D, N>,
+    geo: &Geo,
+    reading: &InodeReading,
+    at: u64,
+    len: u32,
+) -> Result<Bytes, ViewFault>
+    requires geo { LiesIn geo.now view.old }
+    requires fits { Fits geo.now reading.now }
+    ensures bytes { IfOk result (λ bytes. (I : Image) → (view_state view.old).content ≡ Some I → (b : ℕ) → TellsSound (volume_seen geo.now I) b reading.now
+        → bytes ≡ take len (drop at (bytes_of (volume_seen geo.now I) b))) }
+    ensures reads { OnlyReads view.old view.new }
+    ensures fault { IsErrOf result ViewFault.DeviceFault → Rose (view_state view.old).faults (view_state view.new).faults }
+{
+    let bytes = reading.block.as_slice();
+    let leaves = reading.leaves.as_slice();
+    let out = read_data(alloc, view, geo, bytes, leaves, at, len)?;
+    Ok(Bytes::from(out))
+}
+
 /// The bytes of the file or link at `inode` from byte `at` on: `len` of them, or fewer where it ends before. Bad where EXTENT
 /// or INODE_SIZE fails for it.
 pub fn read_bytes<D: Disk, const N: usize>(
@@ -124,17 +147,9 @@ pub fn read_bytes<D: Disk, const N: usize>(
     ensures reads { OnlyReads view.old view.new }
     ensures fault { IsErrOf result ReadFault.DeviceFault → Rose (view_state view.old).faults (view_state view.new).faults }
 {
-    let found = sound_inode(alloc, view, geo, inode)?;
-    let bytes = found.block.as_slice();
-    let leaves = found.reading.leaves.as_slice();
-    if !has_sound_size(alloc, view, geo, inode, bytes, leaves)? {
-        return Err(ReadFault::Bad {
-            check: Check::InodeSize,
-            block: inode,
-        });
-    }
-    let out = read_data(alloc, view, geo, bytes, leaves, at, len)?;
-    Ok(Bytes::from(out))
+    let block = look(view, geo, inode)?;
+    let reading = sound_inode_in(alloc, view, geo, inode, block)?;
+    Ok(part_of_file(alloc, view, geo, &reading, at, len)?)
 }
 
 #[cfg(test)]

@@ -1,26 +1,28 @@
-// Whether the size of a file or a link is sound.
+// Whether the size of an inode is sound.
 ghost use Rattle.std.specs.Prelude.{◌≡◌, ◌-◌, ◌*◌, ◌^◌, ◌≤◌, ◌<◌, ◌||◌, ◌&&◌, true, nat_lt, nat_le, length, IfOk, IsErrOf, Some, if◌then◌else◌};
 ghost use Rattle.std.specs.List.{list_any};
 ghost use Rattle.o2_disk.specs.Image.{Image};
 ghost use Rattle.o2_disk.specs.Device.{Rose};
 ghost use Rattle.o2_ondisk.specs.Dinodes.{last_part_place};
-ghost use Rattle.o2_ondisk.specs.Kinds.{kind_of_mode};
 ghost use Rattle.o2_view.specs.Views.{view_state, view_blocks};
 ghost use Rattle.o2_model.specs.Words.{among};
 ghost use Rattle.o2_model.specs.Directories.{own_inodes};
-ghost use Rattle.o2_model.specs.Inodes.{has_fast_text, is_link_kind, is_file, is_link};
+ghost use Rattle.o2_model.specs.Inodes.{has_fast_text};
 ghost use Rattle.o2_model.specs.Contents.{maps_cluster};
 ghost use Rattle.o2_model.specs.Checks.InodeSize.{has_sound_size as is_sound};
 ghost use Rattle.o2_extent.specs.Seen.{HasSizes, LiesIn, volume_seen};
 ghost use Rattle.o2_extent.specs.Reads.{OnlyReads};
+ghost use Rattle.o2_extent.specs.Readings.{Within};
 ghost use Rattle.o2_dir.specs.Fails.{IsRead};
 
 use crate::inline_directory::has_room;
+use crate::kinds::{is_of_directory, is_of_file, is_of_link};
+use crate::mapped_directory::has_directory_size;
 use crate::own_inodes::is_own;
 use o2_disk::Disk;
 use o2_extent::{Leaf, is_fast_link, is_inline};
 use o2_model::Geo;
-use o2_ondisk::{Dinode, Kind, read_dinode};
+use o2_ondisk::{Dinode, read_dinode};
 use o2_view::{View, ViewFault};
 use std::alloc::Global;
 
@@ -81,17 +83,7 @@ fn is_file_size<D: Disk, const N: usize>(
     is_own(alloc, view, geo, inode)
 }
 
-/// Whether the dinode is one of a link.
-fn is_of_link(dinode: &Dinode) -> bool
-    ensures { result ≡ is_link_kind (kind_of_mode dinode.now.mode) }
-{
-    match dinode.kind() {
-        Some(Kind::Link) => true,
-        _ => false,
-    }
-}
-
-/// Whether INODE_SIZE holds for the file or link at `inode`, whose dinode has these bytes, and which has these records.
+/// Whether INODE_SIZE holds for `inode`, whose dinode has these bytes, and which has these records.
 pub fn has_sound_size<D: Disk, const N: usize>(
     alloc: Global,
     view: &mut View<'_, D, N>,
@@ -104,8 +96,9 @@ pub fn has_sound_size<D: Disk, const N: usize>(
     requires sysdir { geo.now.sysdir < view_blocks view.old }
     requires size { length bytes.now ≡ 2 ^ geo.now.block_bits }
     requires long { 512 ≤ length bytes.now }
+    requires within { Within geo.now leaves.now }
     ensures sound { IfOk result (λ sound. (I : Image) → (view_state view.old).content ≡ Some I → IsRead (volume_seen geo.now I) inode bytes.now leaves.now
-        → (is_file (volume_seen geo.now I) inode || is_link (volume_seen geo.now I) inode) ≡ true → sound ≡ is_sound (volume_seen geo.now I) inode) }
+        → sound ≡ is_sound (volume_seen geo.now I) inode) }
     ensures reads { OnlyReads view.old view.new }
     ensures fault { IsErrOf result ViewFault.DeviceFault → Rose (view_state view.old).faults (view_state view.new).faults }
 {
@@ -115,6 +108,12 @@ pub fn has_sound_size<D: Disk, const N: usize>(
     }
     if is_of_link(&dinode) {
         return Ok(has_text(&dinode, bytes, leaves));
+    }
+    if is_of_directory(&dinode) {
+        return Ok(has_directory_size(alloc, geo, dinode.size, leaves)?);
+    }
+    if !is_of_file(&dinode) {
+        return Ok(true);
     }
     is_file_size(alloc, view, geo, inode, dinode.size)
 }

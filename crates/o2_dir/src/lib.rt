@@ -11,6 +11,8 @@ mod fault;
 mod file_bytes;
 mod file_size;
 mod inline_directory;
+mod inode_reading;
+mod kinds;
 mod mapped_directory;
 mod names;
 mod own_inodes;
@@ -20,14 +22,15 @@ mod path_text;
 mod places;
 mod reading;
 mod route;
-mod sound_inode;
 #[cfg(test)]
 mod testing;
 
 pub use data_inode::{has_bytes, is_of_file_or_link};
-pub use directory::entries;
+pub use directory::{entries, entries_of};
 pub use fault::{DirFault, PathFault};
-pub use file_bytes::read_bytes;
+pub use file_bytes::{part_of_file, read_bytes};
+pub use inode_reading::{InodeReading, sound_inode_in};
+pub use kinds::{is_of_directory, is_of_file};
 pub use names::{look_up, system_file};
 pub use o2_model::{Entries, Entry};
 pub use own_inodes::is_dot_entry;

@@ -5,7 +5,8 @@ ghost use Rattle.o2_disk.specs.Image.{Image};
 ghost use Rattle.o2_disk.specs.Device.{Rose};
 ghost use Rattle.o2_view.specs.Views.{view_state};
 ghost use Rattle.o2_model.specs.Directories.{directory_entries};
-ghost use Rattle.o2_extent.specs.Seen.{LiesIn, volume_seen};
+ghost use Rattle.o2_model.specs.Checks.InodeSize.{has_sound_size};
+ghost use Rattle.o2_extent.specs.Seen.{HasSizes, LiesIn, volume_seen};
 ghost use Rattle.o2_extent.specs.Reads.{OnlyReads};
 ghost use Rattle.o2_extent.specs.Readings.{Within};
 ghost use Rattle.o2_dir.specs.Fails.{FailsNone, FailsFirst, IsMapped};
@@ -14,7 +15,7 @@ use crate::blocks::read_places;
 use crate::places::{Place, places_within};
 use crate::reading::settle;
 use crate::{DirFault, Entries};
-use o2_disk::Disk;
+use o2_disk::{Disk, NoMemory};
 use o2_extent::{Leaf, block_bytes, blocks_per_cluster, volume_blocks};
 use o2_model::{Check, Geo};
 use o2_view::View;
@@ -27,6 +28,24 @@ fn has_size(size: u64, bytes: u64, places: &[Place]) -> bool
 {
     let count = places.len() as u64;
     0 < size && size % bytes == 0 && count == size / bytes
+}
+
+/// Whether a directory of this size with these records has whole blocks, all mapped and written.
+pub fn has_directory_size(
+    alloc: Global,
+    geo: &Geo,
+    size: u64,
+    leaves: &[Leaf],
+) -> Result<bool, NoMemory>
+    requires sizes { HasSizes geo.now }
+    requires within { Within geo.now leaves.now }
+    ensures { IfOk result (λ has. (I : Image) (d : ℕ) → IsMapped (volume_seen geo.now I) d size leaves.now → has ≡ has_sound_size (volume_seen geo.now I) d) }
+{
+    let bytes = block_bytes(geo);
+    let per_cluster = blocks_per_cluster(geo);
+    let blocks = volume_blocks(geo);
+    let places = places_within(alloc, per_cluster, size / bytes, blocks, leaves)?;
+    Ok(has_size(size, bytes, places.as_slice()))
 }
 
 /// The entries in the blocks that the records map.

@@ -1,5 +1,5 @@
 // Entries by their names.
-ghost use Rattle.std.specs.Prelude.{◌≡◌, ◌<◌, ℕ, true, option_map, find, Some, None, IfOk, IsErrOf};
+ghost use Rattle.std.specs.Prelude.{◌≡◌, ◌^◌, ◌<◌, ◌≤◌, ℕ, length, true, option_map, find, Some, None, IfOk, IsErrOf};
 ghost use Rattle.std.specs.Result.{IfErr};
 ghost use Rattle.o2_disk.specs.Image.{Image};
 ghost use Rattle.o2_disk.specs.Device.{Rose};
@@ -11,9 +11,10 @@ ghost use Rattle.o2_extent.specs.Seen.{LiesIn, volume_seen};
 ghost use Rattle.o2_extent.specs.Reads.{OnlyReads};
 ghost use Rattle.o2_dir.specs.Fails.{FailsNone, FailsFirst};
 
-use crate::directory::entries;
+use crate::directory::entries_in;
 use crate::{DirFault, Entry};
 use o2_disk::Disk;
+use o2_extent::look;
 use o2_model::Geo;
 use o2_view::View;
 use std::alloc::Global;
@@ -28,6 +29,38 @@ fn take_named(entries: Vec<Entry>, name: &[u8]) -> Option<Entry>
         }
     }
     None
+}
+
+/// The first live entry of that name in a directory whose block is in hand. Absent where it has none, Bad where EXTENT, INODE_SIZE or DIR_BLOCK fails
+/// for the directory.
+pub fn look_up_in<D: Disk, const N: usize>(
+    alloc: Global,
+    view: &mut View<'_, D, N>,
+    geo: &Geo,
+    inode: u64,
+    bytes: &[u8],
+    name: &[u8],
+) -> Result<Entry, DirFault>
+    requires geo { LiesIn geo.now view.old }
+    requires some { 0 < view_blocks view.old }
+    requires size { length bytes.now ≡ 2 ^ geo.now.block_bits }
+    requires long { 512 ≤ length bytes.now }
+    requires holds { (I : Image) → (view_state view.old).content ≡ Some I → bytes.now ≡ (volume_seen geo.now I).at inode }
+    requires directory { (I : Image) → (view_state view.old).content ≡ Some I → is_directory (volume_seen geo.now I) inode ≡ true }
+    ensures found { IfOk result (λ entry. (I : Image) → (view_state view.old).content ≡ Some I → first_named (volume_seen geo.now I) inode name.now ≡ Some entry) }
+    ensures sound { IfOk result (λ _. (I : Image) → (view_state view.old).content ≡ Some I → FailsNone (volume_seen geo.now I) inode) }
+    ensures absent { IsErrOf result DirFault.Absent → (I : Image) → (view_state view.old).content ≡ Some I
+        → FailsNone (volume_seen geo.now I) inode × (first_named (volume_seen geo.now I) inode name.now ≡ None) }
+    ensures bad { IfErr result (λ fault. (check : Check) (b : ℕ) → fault ≡ DirFault.Bad check b → (I : Image) → (view_state view.old).content ≡ Some I
+        → FailsFirst (volume_seen geo.now I) inode check b) }
+    ensures reads { OnlyReads view.old view.new }
+    ensures fault { IsErrOf result DirFault.DeviceFault → Rose (view_state view.old).faults (view_state view.new).faults }
+{
+    let all = entries_in(alloc, view, geo, inode, bytes)?.into_vec();
+    match take_named(all, name) {
+        Some(entry) => Ok(entry),
+        None => Err(DirFault::Absent),
+    }
 }
 
 /// The first live entry of that name in a directory. Absent where it has none, Bad where EXTENT, INODE_SIZE or DIR_BLOCK fails
@@ -51,11 +84,8 @@ pub fn look_up<D: Disk, const N: usize>(
     ensures reads { OnlyReads view.old view.new }
     ensures fault { IsErrOf result DirFault.DeviceFault → Rose (view_state view.old).faults (view_state view.new).faults }
 {
-    let all = entries(alloc, view, geo, inode)?.into_vec();
-    match take_named(all, name) {
-        Some(entry) => Ok(entry),
-        None => Err(DirFault::Absent),
-    }
+    let block = look(view, geo, inode)?;
+    look_up_in(alloc, view, geo, inode, block.as_slice(), name)
 }
 
 /// The inode of that name in the system directory. Absent where it has none, Bad where EXTENT, INODE_SIZE or DIR_BLOCK fails for

@@ -1,5 +1,6 @@
 // One step of a path.
 ghost use Rattle.std.specs.Prelude.{◌≡◌, ◌^◌, ◌<◌, ◌≤◌, ℕ, length, true, false, Some, IfOk, IsErrOf};
+ghost use Rattle.std.specs.Option.{IfNone, IfSome};
 ghost use Rattle.std.specs.Result.{IfErr};
 ghost use Rattle.o2_disk.specs.Image.{Image};
 ghost use Rattle.o2_disk.specs.Device.{Rose};
@@ -14,12 +15,13 @@ ghost use Rattle.o2_dir.specs.Paths.{StepsTo, Lacks, FailsAt};
 
 use crate::PathFault;
 use crate::data_inode::is_valid_dinode;
-use crate::names::look_up;
+use crate::kinds::is_of_directory;
+use crate::names::look_up_in;
 use o2_disk::Disk;
-use o2_extent::{block_bytes, volume_blocks};
+use o2_extent::{block_bytes, look, volume_blocks};
 use o2_model::{Check, Geo};
-use o2_ondisk::{Dinode, Kind, read_dinode};
-use o2_view::{View, ViewFault};
+use o2_ondisk::read_dinode;
+use o2_view::{Block, View, ViewFault};
 use std::alloc::Global;
 
 /// Whether the dinode at block `inode` is a directory's.
@@ -35,12 +37,8 @@ pub fn is_directory_at<D: Disk, const N: usize>(
     ensures reads { OnlyReads view.old view.new }
     ensures fault { IsErrOf result ViewFault.DeviceFault → Rose (view_state view.old).faults (view_state view.new).faults }
 {
-    let _bytes = block_bytes(geo);
-    let block = view.block(inode)?;
-    match read_dinode(block.as_slice()).kind() {
-        Some(Kind::Directory) => Ok(true),
-        _ => Ok(false),
-    }
+    let block = look(view, geo, inode)?;
+    Ok(is_of_directory(&read_dinode(block.as_slice())))
 }
 
 /// Whether block `b` is a valid dinode of the volume. Any number may be asked.
@@ -64,6 +62,30 @@ pub fn is_valid_at<D: Disk, const N: usize>(
     Ok(is_valid_dinode(geo, b, &dinode))
 }
 
+/// The block of the inode, where it is a directory.
+fn directory_block<D: Disk, const N: usize>(
+    view: &mut View<'_, D, N>,
+    geo: &Geo,
+    inode: u64,
+) -> Result<Option<Block>, ViewFault>
+    requires geo { LiesIn geo.now view.old }
+    requires inode { inode < view_blocks view.old }
+    ensures holds { IfOk result (λ found. IfSome found (λ block. (I : Image) → (view_state view.old).content ≡ Some I → block ≡ (volume_seen geo.now I).at inode)) }
+    ensures yes { IfOk result (λ found. IfSome found (λ _. (I : Image) → (view_state view.old).content ≡ Some I → is_directory (volume_seen geo.now I) inode ≡ true)) }
+    ensures size { IfOk result (λ found. IfSome found (λ block. length block ≡ 2 ^ geo.now.block_bits)) }
+    ensures long { IfOk result (λ found. IfSome found (λ block. 512 ≤ length block)) }
+    ensures no { IfOk result (λ found. IfNone found ((I : Image) → (view_state view.old).content ≡ Some I → is_directory (volume_seen geo.now I) inode ≡ false)) }
+    ensures reads { OnlyReads view.old view.new }
+    ensures fault { IsErrOf result ViewFault.DeviceFault → Rose (view_state view.old).faults (view_state view.new).faults }
+{
+    let block = look(view, geo, inode)?;
+    let dinode = read_dinode(block.as_slice());
+    if !is_of_directory(&dinode) {
+        return Ok(None);
+    }
+    Ok(Some(block))
+}
+
 /// The inode that the name of a path leads to from the inode before.
 pub fn step<D: Disk, const N: usize>(
     alloc: Global,
@@ -83,10 +105,10 @@ pub fn step<D: Disk, const N: usize>(
     ensures reads { OnlyReads view.old view.new }
     ensures fault { IsErrOf result PathFault.DeviceFault → Rose (view_state view.old).faults (view_state view.new).faults }
 {
-    if !is_directory_at(view, geo, inode)? {
+    let Some(block) = directory_block(view, geo, inode)? else {
         return Err(PathFault::WrongKind);
-    }
-    let entry = look_up(alloc, view, geo, inode, name)?;
+    };
+    let entry = look_up_in(alloc, view, geo, inode, block.as_slice(), name)?;
     if !is_valid_at(view, geo, entry.inode)? {
         return Err(PathFault::Bad {
             check: Check::DirentInode,

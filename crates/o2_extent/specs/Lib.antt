@@ -2,3 +2,4 @@ pub mod Seen
 pub mod Reads
 pub mod Readings
 pub mod Maps
+pub mod Rising

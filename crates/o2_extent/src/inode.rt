@@ -72,7 +72,7 @@ fn read_dinode_list<D: Disk, const N: usize>(
 
 /// Reads the list of a dinode of these bytes, where it has one.
 #[tactic(auto, unfolding(o2_model::specs::Inodes::extents, o2_model::specs::Inodes::is_directory))]
-fn read_own_list<D: Disk, const N: usize>(
+pub fn read_own_list<D: Disk, const N: usize>(
     alloc: Global,
     view: &mut View<'_, D, N>,
     geo: &Geo,

@@ -1,5 +1,5 @@
 // The bytes of a file, block by block.
-ghost use Rattle.std.specs.Prelude.{◌≡◌, ◌+◌, ◌-◌, ◌*◌, ◌^◌, ◌<◌, ◌≤◌, ◌++◌, true, find, map, length, OnOk, IsErrOf, Some};
+ghost use Rattle.std.specs.Prelude.{◌≡◌, ◌+◌, ◌-◌, ◌*◌, ◌^◌, ◌<◌, ◌≤◌, ◌++◌, map, length, replicate, OnOk, IsErrOf, Some};
 ghost use Rattle.std.specs.List.{range_with_len};
 ghost use Rattle.std.specs.Option.{IfSome};
 ghost use Rattle.o2_disk.specs.Image.{Image};
@@ -8,45 +8,30 @@ ghost use Rattle.o2_view.specs.Views.{view_state};
 ghost use Rattle.o2_model.specs.Contents.{maps_cluster, byte_of};
 ghost use Rattle.o2_extent.specs.Seen.{HasSizes, LiesIn, volume_seen};
 ghost use Rattle.o2_extent.specs.Reads.{OnlyReads};
-ghost use Rattle.o2_extent.specs.Readings.{IsWithin, Within};
+ghost use Rattle.o2_extent.specs.Readings.{Within};
 ghost use Rattle.o2_extent.specs.Maps.{written_at, piece_byte};
+ghost use Rattle.o2_extent.specs.Rising.{AreRising};
 
 use crate::Leaf;
 use crate::geometry::{block_bytes, blocks_per_cluster, volume_blocks};
-use crate::list::put;
+use crate::place::place_of;
 use crate::tree::look;
 use o2_disk::{Disk, NoMemory};
 use o2_model::Geo;
 use o2_ondisk::ExtentFlags;
 use o2_view::{View, ViewFault};
 
-/// The first record that is about cluster `c`.
-fn find_leaf(geo: &Geo, leaves: &[Leaf], c: u64) -> Option<Leaf>
-    requires within { Within geo.now leaves.now }
-    ensures found { result ≡ find (maps_cluster c) leaves.now }
-    ensures is_about { IfSome result (λ leaf. maps_cluster c leaf ≡ true) }
-    ensures inside { IfSome result (λ leaf. IsWithin geo.now leaf) }
-{
-    for leaf in leaves {
-        let cpos = u64::from(leaf.cpos);
-        if cpos <= c && c < cpos + u64::from(leaf.clusters) {
-            return Some(*leaf);
-        }
-    }
-    None
-}
-
 /// The block of the device that holds block `j` of the file, where that is mapped and written.
 fn written_block(geo: &Geo, leaves: &[Leaf], j: u64) -> Option<u64>
     requires sizes { HasSizes geo.now }
     requires within { Within geo.now leaves.now }
-    ensures block { result ≡ written_at (2 ^ (geo.now.cluster_bits - geo.now.block_bits)) j leaves.now }
+    ensures block { AreRising leaves.now → result ≡ written_at (2 ^ (geo.now.cluster_bits - geo.now.block_bits)) j leaves.now }
     ensures inside { IfSome result (λ b. b < geo.now.clusters * 2 ^ (geo.now.cluster_bits - geo.now.block_bits)) }
 {
     let _blocks = volume_blocks(geo);
     let per_cluster = blocks_per_cluster(geo);
     let c = j / per_cluster;
-    match find_leaf(geo, leaves, c) {
+    match place_of(geo, leaves, c) {
         None => None,
         Some(leaf) => {
             if ExtentFlags(leaf.flags).has(ExtentFlags::UNWRITTEN) {
@@ -68,13 +53,15 @@ fn put_all(out: &mut Vec<u8>, bytes: &[u8]) -> Result<(), NoMemory>
 }
 
 /// Puts zeros at the end.
-fn put_zeros(out: &mut Vec<u8>, from: usize, count: usize) -> Result<(), NoMemory>
-    ensures { OnOk result (out.new.items ≡ out.old.items ++ map (λ _. 0) (range_with_len from count)) }
+fn put_zeros(out: &mut Vec<u8>, count: usize) -> Result<(), NoMemory>
+    requires { count ≤ 4096 }
+    ensures { OnOk result (out.new.items ≡ out.old.items ++ replicate count 0) }
 {
-    for k in 0..count {
-        put(out, 0)?;
+    let long = out.len() + count;
+    match out.resize(long, 0) {
+        Ok(()) => Ok(()),
+        Err(_) => Err(NoMemory),
     }
-    Ok(())
 }
 
 /// Puts `count` bytes of block `j` of the file at the end, from its byte `from` on.
@@ -90,7 +77,7 @@ fn add_piece<D: Disk, const N: usize>(
     requires geo { LiesIn geo.now view.old }
     requires within { Within geo.now leaves.now }
     requires inside { from + count ≤ 2 ^ geo.now.block_bits }
-    ensures bytes { OnOk result ((I : Image) → (view_state view.old).content ≡ Some I
+    ensures bytes { OnOk result ((I : Image) → (view_state view.old).content ≡ Some I → AreRising leaves.now
         → out.new.items ≡ out.old.items ++ map (piece_byte (volume_seen geo.now I) leaves.now j) (range_with_len from count)) }
     ensures long { OnOk result (length out.new.items ≡ length out.old.items + count) }
     ensures reads { OnlyReads view.old view.new }
@@ -102,12 +89,12 @@ fn add_piece<D: Disk, const N: usize>(
             let block = look(view, geo, b)?;
             put_all(out, &block.as_slice()[from..from + count])?;
         }
-        None => put_zeros(out, from, count)?,
+        None => put_zeros(out, count)?,
     }
     Ok(())
 }
 
-/// Puts the bytes of the file from `at` to below `end` at the end.
+/// Puts the bytes of the file from `at` to below `end` at the end. Its records rise, as those of each inode do.
 pub fn add_bytes<D: Disk, const N: usize>(
     view: &mut View<'_, D, N>,
     geo: &Geo,
@@ -119,7 +106,7 @@ pub fn add_bytes<D: Disk, const N: usize>(
     requires geo { LiesIn geo.now view.old }
     requires within { Within geo.now leaves.now }
     requires order { at ≤ end }
-    ensures bytes { OnOk result ((I : Image) → (view_state view.old).content ≡ Some I
+    ensures bytes { OnOk result ((I : Image) → (view_state view.old).content ≡ Some I → AreRising leaves.now
         → out.new.items ≡ out.old.items ++ map (byte_of (volume_seen geo.now I) leaves.now) (range_with_len at (end - at))) }
     ensures reads { OnlyReads view.old view.new }
     ensures fault { IsErrOf result ViewFault.DeviceFault → Rose (view_state view.old).faults (view_state view.new).faults }

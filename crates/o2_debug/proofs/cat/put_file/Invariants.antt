@@ -11,7 +11,7 @@ use Rattle.o2_debug.proofs.cat.put_file.Given as goal
 abbrev pub invariant-loop-at : goal.invariant-loop-at
 invariant-loop-at g l = record {
   within : l.at ≤ l.size;
-  taken : (I : Image) → (view_state l.fn.view).content ≡ Some I → Takes (g.K.Sink.state l.fn.out) (g.K.Sink.state l.out) (take l.at (bytes_of (volume_seen l.geo I) l.inode));
+  taken : (I : Image) → (view_state l.fn.view).content ≡ Some I → Takes (g.K.Sink.state l.fn.out) (g.K.Sink.state l.out) (take l.at (bytes_of (volume_seen l.geo I) l.reading.inode));
   reads : OnlyReads l.fn.view l.view;
   faults : (g.K.Sink.state l.out).faults ≡ (g.K.Sink.state l.fn.out).faults;
 }

@@ -1,9 +1,12 @@
 -- The inode is sound, and of a kind that the query is for.
-use Rattle.std.proofs.Common.{arith, sym, ◌∙◌}
+use Rattle.std.proofs.Common.{ℕ, arith, subst, sym, ◌∙◌}
 use Rattle.std.proofs.lemmas.Result.{IfErr-weaker, on_ok_weaker}
 use Rattle.o2_extent.specs.Seen.{volume_seen}
 use Rattle.o2_extent.proofs.Views.{still_in}
-use Rattle.o2_debug.proofs.AnswerLemmas.{asked_kind}
+use Rattle.o2_debug.specs.Answers.{FailsFor}
+use Rattle.o2_debug.specs.Objects.{IsSound}
+use Rattle.o2_debug.proofs.AnswerLemmas.{asked_kind, answers_as, answers_some_as, begins_as}
+use Rattle.o2_debug.proofs.Judged.{of_own_number}
 use Rattle.o2_debug.proofs.last_object.answer.Goals as goal
 
 pub put_answer-requires : goal.put_answer-requires
@@ -12,20 +15,18 @@ put_answer-requires g c = (
   (
     still_in c.requires.geo c.judge.ensures.reads,
     (
-      omega (arith, c.requires.inode, c.judge.ensures.reads.same.blocks),
+      c.in_ok-reading.ensures.fits,
       (
-        omega (arith, c.requires.sysdir, c.judge.ensures.reads.same.blocks),
+        λ I after. of_own_number (volume_seen c.args.geo.now I) c.args.inode c.in_ok-reading.reading (c.in_ok-reading.ensures.read I (sym c.judge.ensures.reads.reads.content ∙ after)),
         (
-          λ I after. c.requires.valid I (sym c.judge.ensures.reads.reads.content ∙ after),
-          (
-            λ I after. c.in_ok-d.ensures.dinode I (sym c.judge.ensures.reads.reads.content ∙ after),
-            (
-              λ I after. c.in_ok-d.ensures.sound I (sym c.judge.ensures.reads.reads.content ∙ after),
-              λ I after.
-                  let told = sym c.judge.ensures.reads.reads.content ∙ after in
-                  asked_kind (volume_seen c.args.geo.now I) c.args.inode c.in_ok-d.d (c.in_ok-d.ensures.dinode I told) c.args.query.now _ (sym c.is_for.ensures ∙ c.if-not-is_for.false),
-            ),
-          ),
+          λ I after.
+              let told = sym c.judge.ensures.reads.reads.content ∙ after in
+              subst (λ (b : ℕ). IsSound (volume_seen c.args.geo.now I) b) (sym (c.in_ok-reading.ensures.read I told).number) (c.in_ok-reading.ensures.sound I told),
+          λ I after.
+              let v = volume_seen c.args.geo.now I in
+              let told = sym c.judge.ensures.reads.reads.content ∙ after in
+              let tells = of_own_number v c.args.inode c.in_ok-reading.reading (c.in_ok-reading.ensures.read I told) in
+              asked_kind v c.in_ok-reading.reading.inode c.in_ok-reading.reading.dinode tells.dinode c.args.query.now _ (sym c.is_for.ensures ∙ c.if-not-is_for.false),
         ),
       ),
     ),
@@ -34,22 +35,26 @@ put_answer-requires g c = (
 
 pub returns-then-not-is_for-clause-kind : goal.returns-then-not-is_for-clause-kind
 returns-then-not-is_for-clause-kind g c is I told = record {
-  sound = c.in_ok-d.ensures.sound I told;
-  kind = asked_kind (volume_seen c.args.geo.now I) c.args.inode c.in_ok-d.d (c.in_ok-d.ensures.dinode I told) c.args.query.now _ (sym c.is_for.ensures ∙ c.if-not-is_for.true);
+  sound = c.in_ok-reading.ensures.sound I told;
+  kind = asked_kind (volume_seen c.args.geo.now I) c.args.inode c.in_ok-reading.reading.dinode (c.in_ok-reading.ensures.read I told).dinode c.args.query.now _ (sym c.is_for.ensures ∙ c.if-not-is_for.true);
 }
 
 pub returns-clause-all : goal.returns-clause-all
-returns-clause-all g c = on_ok_weaker c.put_answer.result (λ answers I told. answers I (c.judge.ensures.reads.reads.content ∙ told)) c.put_answer.ensures.all
+returns-clause-all g c = on_ok_weaker c.put_answer.result (λ answers I told.
+    answers_as c.args.query.now (volume_seen c.args.geo.now I) c.in_ok-reading.reading.inode c.args.inode (c.in_ok-reading.ensures.read I told).number (answers I (c.judge.ensures.reads.reads.content ∙ told))) c.put_answer.ensures.all
 
 pub returns-clause-some : goal.returns-clause-some
-returns-clause-some g c I told = c.put_answer.ensures.some I (c.judge.ensures.reads.reads.content ∙ told)
+returns-clause-some g c I told =
+    begins_as c.args.query.now (volume_seen c.args.geo.now I) c.in_ok-reading.reading.inode c.args.inode (c.in_ok-reading.ensures.read I told).number (c.put_answer.ensures.some I (c.judge.ensures.reads.reads.content ∙ told))
 
 pub returns-clause-cut : goal.returns-clause-cut
-returns-clause-cut g c failed I told = c.put_answer.ensures.cut failed I (c.judge.ensures.reads.reads.content ∙ told)
+returns-clause-cut g c failed I told =
+    answers_some_as c.args.query.now (volume_seen c.args.geo.now I) c.in_ok-reading.reading.inode c.args.inode (c.in_ok-reading.ensures.read I told).number (c.put_answer.ensures.cut failed I (c.judge.ensures.reads.reads.content ∙ told))
 
 pub returns-clause-bad : goal.returns-clause-bad
 returns-clause-bad g c =
-    IfErr-weaker c.put_answer.result _ _ (λ y fails check b is I told. fails check b is I (c.judge.ensures.reads.reads.content ∙ told)) c.put_answer.ensures.bad
+    IfErr-weaker c.put_answer.result _ _ (λ y fails check at is I told.
+    subst (λ (b : ℕ). FailsFor c.args.query.now (volume_seen c.args.geo.now I) b check at) (c.in_ok-reading.ensures.read I told).number (fails check at is I (c.judge.ensures.reads.reads.content ∙ told))) c.put_answer.ensures.bad
 
 pub returns-clause-untouched : goal.returns-clause-untouched
 returns-clause-untouched g c =

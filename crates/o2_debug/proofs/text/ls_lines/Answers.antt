@@ -6,5 +6,5 @@ use Rattle.o2_debug.proofs.text.ls_lines.Goals as goal
 
 pub returns-in-Ok-clause-text : goal.returns-in-Ok-clause-text
 returns-in-Ok-clause-text g c I told' =
-    ls_is (volume_seen c.args.geo.now I) c.args.inode c.as_slice.result.now c.in-Ok.lines
+    ls_is (volume_seen c.args.geo.now I) c.args.reading.now.inode c.as_slice.result.now c.in-Ok.lines
     (c.as_slice.ensures ∙ c.in_ok-found.ensures.entries I told') c.in-Ok.ensures

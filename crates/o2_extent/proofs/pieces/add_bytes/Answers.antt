@@ -10,7 +10,7 @@ use Rattle.o2_extent.proofs.pieces.add_bytes.Goals as goal
 
 pub loop-next-preserved : goal.loop-next-preserved
 loop-next-preserved g c = record {
-  bytes = λ I told.
+  bytes = λ I told rising.
       let leaves = c.args.leaves.now in
       let v = volume_seen c.args.geo.now I in
       let at = c.args.at in
@@ -23,12 +23,12 @@ loop-next-preserved g c = record {
       let low : next % size < size = mod-lt next (omega (arith, c.block_bytes-size.ensures.some)) in
       let within : next % size + count ≤ size = omega (arith, low, c.min-count.ensures) in
       let inside : next % 2 ^ c.args.geo.now.block_bits + count ≤ 2 ^ c.args.geo.now.block_bits = subst (λ w. next % w + count ≤ w) is within in
-      let piece = rw is at (c.in_ok-add_piece.ensures.bytes I (c.loop-next.invariant.reads.reads.content ∙ told)) in
+      let piece = rw is at (c.in_ok-add_piece.ensures.bytes I (c.loop-next.invariant.reads.reads.content ∙ told) rising) in
       let there : at + (next - at) ≡ next = omega (arith, c.loop-next.invariant.low) in
       let more : next + count - at ≡ next - at + count = omega (arith, c.loop-next.invariant.low) in
       piece
       ∙ (ap (λ xs. c.loop-next.out.items ++ xs) (piece_bytes v leaves next count some inside)
-      ∙ (ap (λ xs. xs ++ map f (range_with_len next count)) (c.loop-next.invariant.bytes I told)
+      ∙ (ap (λ xs. xs ++ map f (range_with_len next count)) (c.loop-next.invariant.bytes I told rising)
       ∙ (append_assoc c.args.out.now.items (map f (range_with_len at (next - at))) (map f (range_with_len next count))
       ∙ ap (λ xs. c.args.out.now.items ++ xs)
       (ap (λ a. map f (range_with_len at (next - at)) ++ map f (range_with_len a count)) (sym there)

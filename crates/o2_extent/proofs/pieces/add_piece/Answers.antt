@@ -1,16 +1,15 @@
 -- The bytes of the block that is found, or zeros.
 use Rattle.std.proofs.Common.{◌≡◌, ℕ, ◌+◌, ◌-◌, ◌≤◌, ◌++◌, map, length, take, drop, ◌∙◌, ap, arith}
-use Rattle.std.specs.Prelude.{slice_index}
+use Rattle.std.specs.Prelude.{slice_index, replicate}
 use Rattle.std.specs.List.{range_with_len}
 use Rattle.std.specs.Option.{option_map_or}
-use Rattle.std.proofs.lemmas.List.{length-append}
-use Rattle.std.proofs.lemmas.List.FromFn.{length-map-range_with_len}
+use Rattle.std.proofs.lemmas.List.{length-append, length-replicate}
 use Rattle.o2_extent.specs.Seen.{volume_seen}
-use Rattle.o2_extent.proofs.FileBytes.{part_is}
+use Rattle.o2_extent.proofs.FileBytes.{part_is, zeros_are}
 use Rattle.o2_extent.proofs.pieces.add_piece.Goals as goal
 
 pub returns-in_ok-put_all-in-Some-clause-bytes : goal.returns-in_ok-put_all-in-Some-clause-bytes
-returns-in_ok-put_all-in-Some-clause-bytes g c I told =
+returns-in_ok-put_all-in-Some-clause-bytes g c I told rising =
     let v = volume_seen c.args.geo.now I in
     let from = c.args.from in
     let count = c.args.count in
@@ -22,8 +21,18 @@ returns-in_ok-put_all-in-Some-clause-bytes g c I told =
     (ap (λ k. take k (drop from c.as_slice.result.now)) n
     ∙ (ap (λ bs. take count (drop from bs)) (c.as_slice.ensures ∙ block)
     ∙ (part_is (v.at c.in-Some.b) from count inside
-    ∙ ap (λ w. map (λ o. option_map_or (λ b. slice_index (v.at b) o) w 0) (range_with_len from count)) c.in-Some.ensures.block)))
+    ∙ ap (λ w. map (λ o. option_map_or (λ b. slice_index (v.at b) o) w 0) (range_with_len from count)) (c.in-Some.ensures.block rising))))
+
+pub returns-in_ok-put_zeros-in-None-clause-bytes : goal.returns-in_ok-put_zeros-in-None-clause-bytes
+returns-in_ok-put_zeros-in-None-clause-bytes g c I told rising =
+    let v = volume_seen c.args.geo.now I in
+    let from = c.args.from in
+    let count = c.args.count in
+    c.in_ok-put_zeros-in-None.ensures
+    ∙ ap (λ xs. c.args.out.now.items ++ xs)
+    (zeros_are from count
+    ∙ ap (λ w. map (λ o. option_map_or (λ b. slice_index (v.at b) o) w 0) (range_with_len from count)) (c.in-None.ensures.block rising))
 
 pub returns-in_ok-put_zeros-in-None-clause-long : goal.returns-in_ok-put_zeros-in-None-clause-long
 returns-in_ok-put_zeros-in-None-clause-long g c =
-    omega (arith, ap length c.in_ok-put_zeros-in-None.ensures, length-append c.args.out.now.items (map (λ _. 0) (range_with_len c.args.from c.args.count)), length-map-range_with_len {X = ℕ} (λ _. 0) c.args.from c.args.count)
+    omega (arith, ap length c.in_ok-put_zeros-in-None.ensures, length-append c.args.out.now.items (replicate {A = ℕ} c.args.count 0), length-replicate {A = ℕ} c.args.count 0)

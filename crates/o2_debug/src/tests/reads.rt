@@ -1,0 +1,148 @@
+// How often the disk is called for a query: once for each block that it needs.
+ghost use Rattle.std.specs.Prelude.{◌≤◌, ◌+◌, ◌*◌, length};
+ghost use Rattle.o2_disk.specs.Device.{SameDevice, IsWritable};
+
+use super::{answered, path, volume};
+use crate::Query;
+use o2_disk::{Disk, MemDisk, MemSink};
+use o2_ondisk::{
+    Dinode, ExtentBlock, ExtentListHeader, ExtentRec, ExtentSize, InodeFlags, Signature,
+    read_dinode, write_dinode, write_extent_block, write_extent_list_header, write_extent_rec,
+};
+use std::alloc::Global;
+use std::process::Abort;
+use std::test::Fail;
+
+// The records of each of the two extent blocks.
+const RECORDS: u32 = 100;
+
+// How many of these are written: the others have a flag that says that they are not.
+const WRITTEN: u64 = 75;
+
+// A list of this depth with so many records, which begins at byte `at`.
+fn put_header(block: &mut [u8], at: usize, depth: u16, used: u16)
+    requires { at + 16 ≤ length block.old }
+{
+    let header = ExtentListHeader {
+        tree_depth: depth,
+        count: 200,
+        next_free_rec: used,
+    };
+    write_extent_list_header(&mut block[at..], &header);
+}
+
+fn put_record(block: &mut [u8], at: usize, cpos: u32, size: u32, blkno: u64)
+    requires { at + 16 ≤ length block.old }
+{
+    let record = ExtentRec {
+        cpos,
+        size: ExtentSize(size),
+        blkno,
+    };
+    write_extent_rec(&mut block[at..], &record);
+}
+
+// The file `a`, of 400 clusters, whose records are in blocks 9 and 10.
+fn tree() -> [u8; 4096] {
+    let mut block = [0; 4096];
+    let fields = Dinode {
+        signature: Signature::INODE01,
+        size: 400 * 4096,
+        clusters: 200,
+        mode: 0o100644,
+        links_count: 1,
+        flags: InodeFlags::VALID,
+        blkno: 8,
+        ..read_dinode(&[0; 192])
+    };
+    write_dinode(&mut block, &fields);
+    put_header(&mut block, 0xc0, 1, 2);
+    put_record(&mut block, 0xd0, 0, 200, 9);
+    put_record(&mut block, 0xe0, 200, 200, 10);
+    block
+}
+
+// Each second cluster from `cpos` on, in the blocks 11 to 14 in turn, those in block 14 unwritten.
+fn leaf(blkno: u64, cpos: u32) -> [u8; 4096]
+    requires { cpos ≤ 1000 }
+{
+    let mut block = [0; 4096];
+    let fields = ExtentBlock {
+        signature: Signature::EXBLK01,
+        suballoc_slot: 0,
+        suballoc_bit: 0,
+        fs_generation: 0,
+        blkno,
+        suballoc_loc: 0,
+        next_leaf_blk: 0,
+    };
+    write_extent_block(&mut block, &fields);
+    put_header(&mut block, 0x30, 0, 100);
+    for k in 0..RECORDS {
+        let size = if k % 4 == 3 { 0x0100_0001 } else { 1 };
+        let place = 11 + u64::from(k % 4);
+        put_record(
+            &mut block,
+            0x40 + 16 * k as usize,
+            cpos + 2 * k,
+            size,
+            place,
+        );
+    }
+    block
+}
+
+// How often the disk is called for the query.
+fn calls_of(
+    rt: &impl Abort,
+    alloc: Global,
+    disk: &mut MemDisk,
+    query: &Query,
+) -> Result<u64, Fail> {
+    let before = disk.calls();
+    let mut out = MemSink::new(alloc);
+    assert_eq!(rt; answered(rt, alloc, disk, query, &mut out)?, None);
+    Ok(disk.calls().saturating_sub(before))
+}
+
+#[test]
+fn reads_each_block_once(rt: HostRuntime) -> Result<(), Fail> {
+    let alloc = rt.alloc();
+    let mut disk = volume(&rt, alloc)?;
+    let stat = Query::Stat {
+        path: path(alloc, "/a")?,
+    };
+    let cat = Query::Cat {
+        path: path(alloc, "/a")?,
+    };
+    let first = calls_of(&rt, alloc, &mut disk, &stat)?;
+    assert!(rt; first < 100);
+    disk.write(64, &tree())?;
+    disk.write(72, &leaf(9, 0))?;
+    disk.write(80, &leaf(10, 200))?;
+    // The two extent blocks.
+    assert_eq!(rt; calls_of(&rt, alloc, &mut disk, &stat)?, first + 2);
+    // And the blocks of the clusters that are written, of no hole and of no cluster that is not.
+    assert_eq!(rt;
+        calls_of(&rt, alloc, &mut disk, &cat)?,
+        first + 2 + 2 * WRITTEN
+    );
+    Ok(())
+}
+
+#[test]
+fn reads_each_inode_on_the_way_twice_at_most(rt: HostRuntime) -> Result<(), Fail> {
+    let alloc = rt.alloc();
+    let mut disk = volume(&rt, alloc)?;
+    let root = Query::Stat {
+        path: path(alloc, "/")?,
+    };
+    let dots = Query::Stat {
+        path: path(alloc, "/./../.")?,
+    };
+    let at_root = calls_of(&rt, alloc, &mut disk, &root)?;
+    assert!(rt; at_root < 100);
+    // Each name is looked up in the root, and the inode that it names is judged.
+    assert!(rt; calls_of(&rt, alloc, &mut disk, &dots)? <= at_root + 6);
+    Ok(())
+}
