@@ -51,13 +51,18 @@ label_line words line =
     let tool = parted (Fixed Tunefs) (One (Fixed Label) ∷ One Text ∷ One Device ∷ []) words line in
     let option = parted (Fixed Label) (One Text ∷ One Device ∷ []) tool.more tool.behind in
     let label = parted Text (One Device ∷ []) option.more option.behind in
-    let device = parted Device [] label.more label.behind in
-    (label.word, (device.word, record {
-      form = tool.is ∙ ap (λ (w : List ℕ). w ∷ tool.more) tool.fits ∙ ap (λ (ws : Words). codes "tunefs" ∷ ws)
-        (option.is ∙ ap (λ (w : List ℕ). w ∷ option.more) option.fits ∙ ap (λ (ws : Words). codes "-L" ∷ ws)
-        (label.is ∙ ap (λ (ws : Words). label.word ∷ ws) (device.is ∙ ap (λ (ws : Words). device.word ∷ ws) (ended device.more device.behind))));
-      names = device.fits;
-    }))
+    let device = parted Device [] label.more label.behind in (
+      label.word,
+      (
+        device.word,
+        record {
+          form = tool.is ∙ ap (λ (w : List ℕ). w ∷ tool.more) tool.fits ∙ ap (λ (ws : Words). codes "tunefs" ∷ ws)
+              (option.is ∙ ap (λ (w : List ℕ). w ∷ option.more) option.fits ∙ ap (λ (ws : Words). codes "-L" ∷ ws)
+              (label.is ∙ ap (λ (ws : Words). label.word ∷ ws) (device.is ∙ ap (λ (ws : Words). device.word ∷ ws) (ended device.more device.behind))));
+          names = device.fits;
+        },
+      ),
+    )
 
 line_label : (words : Words) → IsTunefs words → Matches LABEL_FORM words
 line_label words (label, (device, line)) =
@@ -72,14 +77,19 @@ debug_line words line =
     let tool = parted (Fixed Debugfs) (One (Fixed Ask) ∷ One Query ∷ One Device ∷ []) words line in
     let option = parted (Fixed Ask) (One Query ∷ One Device ∷ []) tool.more tool.behind in
     let asking = parted Query (One Device ∷ []) option.more option.behind in
-    let device = parted Device [] asking.more asking.behind in
-    (asking.word, (device.word, record {
-      form = tool.is ∙ ap (λ (w : List ℕ). w ∷ tool.more) tool.fits ∙ ap (λ (ws : Words). codes "debugfs" ∷ ws)
-        (option.is ∙ ap (λ (w : List ℕ). w ∷ option.more) option.fits ∙ ap (λ (ws : Words). codes "-R" ∷ ws)
-        (asking.is ∙ ap (λ (ws : Words). asking.word ∷ ws) (device.is ∙ ap (λ (ws : Words). device.word ∷ ws) (ended device.more device.behind))));
-      asks = asking.fits;
-      names = device.fits;
-    }))
+    let device = parted Device [] asking.more asking.behind in (
+      asking.word,
+      (
+        device.word,
+        record {
+          form = tool.is ∙ ap (λ (w : List ℕ). w ∷ tool.more) tool.fits ∙ ap (λ (ws : Words). codes "debugfs" ∷ ws)
+              (option.is ∙ ap (λ (w : List ℕ). w ∷ option.more) option.fits ∙ ap (λ (ws : Words). codes "-R" ∷ ws)
+              (asking.is ∙ ap (λ (ws : Words). asking.word ∷ ws) (device.is ∙ ap (λ (ws : Words). device.word ∷ ws) (ended device.more device.behind))));
+          asks = asking.fits;
+          names = device.fits;
+        },
+      ),
+    )
 
 line_debug : (words : Words) → IsDebugfs words → Matches DEBUG_FORM words
 line_debug words (word, (device, line)) =
@@ -104,9 +114,12 @@ is_line words (inr line) = (1, DEBUG_FORM, omega arith, refl, line_debug words l
 
 -- words that are no line of either, and the place up to which they are in order
 pub usage_of : (words : Words) (place : ℕ) → (IsNotBuilt words → ⊥) → (IsTunefs words → ⊥) → (IsDebugfs words → ⊥) → ReachesTo forms words place → RefusesWords words (Usage place)
-usage_of words place built other others reaches = (built, record {
-  no_line = λ line. ⊎_elim other others (line_of words line);
-  within = reaches.within;
-  begins = reaches.begins;
-  leaves = reaches.leaves;
-})
+usage_of words place built other others reaches = (
+  built,
+  record {
+    no_line = λ line. ⊎_elim other others (line_of words line);
+    within = reaches.within;
+    begins = reaches.begins;
+    leaves = reaches.leaves;
+  },
+)

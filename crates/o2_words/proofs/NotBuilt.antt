@@ -1,5 +1,5 @@
 -- Words of a tool, or of an option, that is not built.
-use Rattle.std.proofs.Common.{◌≡◌, ◌⊎◌, inl, inr, ⊎_elim, ℕ, List, ◌∷◌, codes, ◌∙◌, ap, sym}
+use Rattle.std.proofs.Common.{◌≡◌, ◌⊎◌, inl, inr, ⊎_elim, ℕ, List, ◌∷◌, codes, ◌∙◌, ap}
 use Rattle.o2_words.specs.CommandLine.{Words, IsFirst, AreFirst, IsNotBuilt}
 
 abbrev pub IsUnbuiltTool : List ℕ → Type 0
@@ -45,5 +45,6 @@ unbuilt words rest tool option shown built =
   where
     first : (name : List ℕ) → IsFirst name words → tool ≡ name
     first name is = let e = is.1 in cc (e, shown)
+
     second : (name : List ℕ) → AreFirst (codes "tunefs") name words → option ≡ name
     second name are = let e = are.1 in cc (e, shown)

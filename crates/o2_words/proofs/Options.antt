@@ -2,7 +2,7 @@
 use Rattle.std.proofs.Common.{◌≡◌, ◌≢◌, ◌⊎◌, inl, inr, ℕ, zero, suc, ◌+◌, ◌<◌, List, [], ◌∷◌, ◌++◌, take, drop, get_or, refl, sym, ◌∙◌, ap, subst, arith, HoldsAt}
 use Rattle.o2_words.specs.Names.{text_of}
 use Rattle.o2_words.specs.Kinds.{Fits}
-use Rattle.o2_words.specs.Parts.{Reads, MayBeLeft}
+use Rattle.o2_words.specs.Parts.{Reads}
 use Rattle.o2_words.specs.Forms.{Words, Form, left_behind, IsPassed, IsReader, IsOption, Follows, Leads, Matches}
 use Rattle.o2_words.specs.declared.form.Part.{Part}
 use Rattle.o2_words.specs.declared.form.Part.TheVariants.{One, Optional}

@@ -1,5 +1,5 @@
 -- The place at which words leave the forms of a list.
-use Rattle.std.proofs.Common.{◌≡◌, ◌⊎◌, inl, inr, ℕ, ◌+◌, ◌-◌, ◌<◌, ◌≤◌, List, [], ◌∷◌, ◌++◌, length, map, take, drop, get_or, String, string_bytes, refl, sym, ◌∙◌, ap, subst, arith, add-one, max, cond, sum_by}
+use Rattle.std.proofs.Common.{◌≡◌, ◌⊎◌, inl, inr, ℕ, ◌+◌, ◌-◌, ◌<◌, ◌≤◌, List, [], ◌∷◌, ◌++◌, length, take, drop, get_or, String, string_bytes, sym, ◌∙◌, ap, subst, arith, add-one, max, cond, sum_by}
 use Rattle.std.proofs.Math.Nat.{le-max_left, le-max_right, max-eq_left, max-eq_right}
 use Rattle.std.specs.declared.alloc.Global.{Global}
 use Rattle.std.specs.declared.cmp.Ordering.{Ordering}
@@ -7,12 +7,11 @@ use Rattle.std.specs.declared.cmp.Ordering.TheVariants.{Less, Equal, Greater}
 use Rattle.std.specs.Ordering.{ord_max, nat_cmp, is_lt}
 use Rattle.std.specs.Cmp.{nat_cmp_is}
 use Rattle.std.proofs.lemmas.Bool.{cases_lt, cases_order}
-use Rattle.std.proofs.lemmas.List.{drop_more, take_more, take-append-drop, append_assoc, get_or-map, length-map, get_or_default}
+use Rattle.std.proofs.lemmas.List.{drop_more, take_more, append_assoc, get_or-map, length-map, get_or_default}
 use Rattle.std.proofs.lemmas.List.Sums.{sum_by_more}
 use Rattle.std.proofs.Math.Seq.{take-add}
-use Rattle.o2_words.specs.Parts.{MayBeLeft}
-use Rattle.o2_words.specs.Forms.{Words, texts, Form, Follows, Leads, Matches, StopsAt, most_words, IsLineOf, BeginsLineOf, ReachesTo}
-use Rattle.o2_words.proofs.Readings.{leads_on, leads_back, leads_more, has_line, one_fewer}
+use Rattle.o2_words.specs.Forms.{Words, texts, Form, Follows, Leads, Matches, StopsAt, most_words, BeginsLineOf, ReachesTo}
+use Rattle.o2_words.proofs.Readings.{leads_on, leads_back, leads_more, has_line}
 
 -- ---- the words as strings
 pub text_at : (words : List (String Global)) (k : ℕ) (word : String Global) (text : List ℕ) → k < length words → word ≡ get_or words k word → text ≡ string_bytes word → get_or (texts words) k [] ≡ text
@@ -64,13 +63,6 @@ pub record IsFarthest (forms : List Form) (words : Words) (n : ℕ) (place : ℕ
   pub covered : (k : ℕ) → k < n → (p : ℕ) × StopsAt (get_or forms k []) words p × (p ≤ place)
   pub best : 0 < n → (k : ℕ) × (k < n) × StopsAt (get_or forms k []) words place
   pub few : place ≤ sum_by most_words (take n forms)
-
-pub farthest_of_none : (forms : List Form) (words : Words) → IsFarthest forms words 0 0
-farthest_of_none forms words = record {
-  covered = λ k below. absurd (omega (arith, below));
-  best = λ some. absurd (omega (arith, some));
-  few = omega arith;
-}
 
 module _ (forms : List Form) (words : Words) (n old p : ℕ) (within : n < length forms) (far : IsFarthest forms words n old) (stops : StopsAt (get_or forms n []) words p) (few : p ≤ most_words (get_or forms n [])) where
   more_words : sum_by most_words (take (n + 1) forms) ≡ sum_by most_words (take n forms) + most_words (get_or forms n [])
@@ -124,6 +116,7 @@ reaches forms words place some far =
   where
     in_range : (xs : List Form) (k : ℕ) → k < length xs → get_or xs k (get_or xs k []) ≡ get_or xs k []
     in_range xs k within = get_or_default xs k (get_or xs k []) [] within
+
     leaves : place < length words → BeginsLineOf forms (take (place + 1) words) → ⊥
     leaves within (more, (k, form, below, is, line)) =
         let one = far.covered k below in

@@ -12,10 +12,6 @@ use Rattle.o2_words.specs.QueryWords.{IsNumber, NamesPath, NamesNumber, IsForLat
 pub names_no_path : (name word rest : List ℕ) → word ≡ name ++ rest → (IsPath rest → ⊥) → (path : List ℕ) → NamesPath name path word → ⊥
 names_no_path name word rest is other path named = other (subst IsPath (append_cancel_left name path rest (sym named.form ∙ is)) named.is)
 
--- or no number
-pub names_no_number : (name word rest : List ℕ) → word ≡ name ++ rest → (IsNumber rest → ⊥) → (number : List ℕ) → NamesNumber name number word → ⊥
-names_no_number name word rest is other number named = other (subst IsNumber (append_cancel_left name number rest (sym named.form ∙ is)) named.is)
-
 -- the word asks for nothing
 pub asks_nothing : (word : List ℕ) → ((path : List ℕ) → NamesPath (codes "ls ") path word → ⊥) → ((path : List ℕ) → NamesPath (codes "stat ") path word → ⊥) → ((path : List ℕ) → NamesPath (codes "cat ") path word → ⊥) → (IsForLater word → ⊥) → IsQueryWord word → ⊥
 asks_nothing word ls stat cat later (inl (Ls path, named)) = ls path named

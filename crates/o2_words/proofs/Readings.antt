@@ -1,14 +1,13 @@
 -- Words are read in one way, and every form has a line.
-use Rattle.std.proofs.Common.{◌≡◌, ◌⊎◌, inl, inr, ℕ, ◌+◌, ◌-◌, ◌<◌, ◌≤◌, List, [], ◌∷◌, ◌++◌, length, take, drop, get_or, refl, sym, ◌∙◌, ap, subst, arith, codes, All, HoldsAt}
+use Rattle.std.proofs.Common.{◌≡◌, inl, inr, ℕ, ◌+◌, ◌<◌, ◌≤◌, List, [], ◌∷◌, ◌++◌, take, drop, get_or, refl, sym, ◌∙◌, ap, subst, arith, codes}
 use Rattle.std.proofs.lemmas.Bool.{cases_order}
 use Rattle.std.proofs.lemmas.List.{drop_more, take-append-drop}
 use Rattle.std.proofs.lemmas.List.Elements.{All-nil}
-use Rattle.std.proofs.Math.Seq.{take-add}
 use Rattle.std.proofs.lemmas.List.Sums.{sum_by-append, sum_by-cons}
 use Rattle.o2_words.specs.Names.{text_of}
-use Rattle.o2_words.specs.Kinds.{IsDevice, Fits}
+use Rattle.o2_words.specs.Kinds.{Fits}
 use Rattle.o2_words.specs.Parts.{Reads, MayBeLeft}
-use Rattle.o2_words.specs.Forms.{Words, Form, left_behind, IsPassed, IsReader, Follows, Leads, Matches, StopsAt, words_of, most_words}
+use Rattle.o2_words.specs.Forms.{Words, Form, left_behind, IsReader, Follows, Leads, Matches, words_of, most_words}
 use Rattle.o2_words.specs.declared.kind.Kind.{Kind}
 use Rattle.o2_words.specs.declared.kind.Kind.TheVariants.{Fixed, Text, Device, Query, Number}
 use Rattle.o2_words.specs.declared.form.Part.{Part}

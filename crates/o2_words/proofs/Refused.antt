@@ -3,9 +3,9 @@ use Rattle.std.proofs.Common.{◌≡◌, ◌≢◌, ◌⊎◌, inl, inr, ⊎_eli
 use Rattle.std.proofs.lemmas.Bool.Decides.{nat_tests}
 use Rattle.o2_debug.specs.declared.query.Query.{Query}
 use Rattle.o2_debug.specs.declared.query.Query.TheVariants.{Ls, Stat, Cat}
-use Rattle.o2_words.specs.CommandLine.{Words, IsTunefs, IsDebugfs, IsDebugLine, IsLine, IsFirst, AreFirst, IsNotBuilt, IsLaterLine, RefusesWords, word_of}
+use Rattle.o2_words.specs.CommandLine.{Words, IsTunefs, IsDebugfs, IsLine, IsFirst, AreFirst, IsNotBuilt, RefusesWords, word_of}
 use Rattle.o2_words.specs.Commands.{AsksQuery}
-use Rattle.o2_words.specs.QueryWords.{NamesPath, Asks, IsForLater}
+use Rattle.o2_words.specs.QueryWords.{Asks, IsForLater}
 use Rattle.o2_words.specs.declared.command.WordFault.{WordFault}
 use Rattle.o2_words.specs.declared.command.WordFault.TheVariants.{NoMemory, Usage, Later}
 use Rattle.o2_words.proofs.Lines.{is_line}

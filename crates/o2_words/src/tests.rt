@@ -1,6 +1,7 @@
 // The words of command lines, and where they leave their forms.
 use crate::place::farthest;
 use crate::{Command, Kind, Name, Part, WordFault, read_words};
+use o2_debug::Query;
 use std::alloc::{AllocError, Global};
 use std::test::Fail;
 
@@ -82,14 +83,30 @@ const LATER: [&str; 11] = [
 fn refuses_words(rt: HostRuntime) -> Result<(), Fail> {
     let alloc = rt.alloc();
     let none: Vec<String> = Vec::new(alloc);
-    assert_eq!(rt; read_words(alloc, &none).err(), Some(WordFault::Usage { place: 0 }));
+    assert_eq!(rt;
+        read_words(alloc, &none).err(),
+        Some(WordFault::Usage { place: 0 })
+    );
     for (line, place) in USAGE {
-        assert_eq!(rt; fault_of(alloc, line)?, Some(WordFault::Usage { place }), "{line}");
+        assert_eq!(rt;
+            fault_of(alloc, line)?,
+            Some(WordFault::Usage { place }),
+            "{line}"
+        );
     }
     for line in LATER {
         assert_eq!(rt; fault_of(alloc, line)?, Some(WordFault::Later), "{line}");
     }
     Ok(())
+}
+
+// What a query asks for, as text.
+fn query_text(alloc: Global, query: Query) -> Result<String, AllocError> {
+    match query {
+        Query::Ls { path } => format!(in alloc; "ls {path}"),
+        Query::Stat { path } => format!(in alloc; "stat {path}"),
+        Query::Cat { path } => format!(in alloc; "cat {path}"),
+    }
 }
 
 #[test]
@@ -101,19 +118,30 @@ fn reads_words(rt: HostRuntime) -> Result<(), Fail> {
             assert_eq!(rt; label.as_slice(), "-N".as_bytes());
             assert_eq!(rt; device, 3);
         }
-        _ => assert!(rt; false),
+        Ok(
+            Command::Debug {
+                query: _query,
+                device: _device,
+            },
+        ) => assert!(rt; false),
+        Err(_fault) => assert!(rt; false),
     }
-    let words = words_of(alloc, "debugfs|-R|cat //a b|disk")?;
-    match read_words(alloc, &words) {
-        Ok(Command::Debug {
-            query: o2_debug::Query::Cat { path },
-            device,
-        }) => {
-            let text = format!(in alloc; "{path}")?;
-            assert_eq!(rt; text.as_str(), "//a b");
-            assert_eq!(rt; device, 3);
+    for asked in ["ls /", "stat /a b/c", "cat //a"] {
+        let line = format!(in alloc; "debugfs|-R|{asked}|disk")?;
+        match read_words(alloc, &words_of(alloc, &line)?) {
+            Ok(Command::Debug { query, device }) => {
+                let text = query_text(alloc, query)?;
+                assert_eq!(rt; text.as_str(), asked);
+                assert_eq!(rt; device, 3);
+            }
+            Ok(
+                Command::Label {
+                    label: _label,
+                    device: _device,
+                },
+            ) => assert!(rt; false),
+            Err(_fault) => assert!(rt; false),
         }
-        _ => assert!(rt; false),
     }
     Ok(())
 }

@@ -1,5 +1,5 @@
 -- The farther place of two, and the farthest of all.
-use Rattle.std.proofs.Common.{rules, ◌≡◌, ◌+◌, ◌<◌, ◌≤◌, ℕ, List, [], length, map, get_or, arith, sym, ap, ◌∙◌, subst, refl}
+use Rattle.std.proofs.Common.{◌≡◌, ◌+◌, ◌<◌, ◌≤◌, ℕ, List, [], length, map, get_or, arith, sym, ◌∙◌, subst}
 use Rattle.std.proofs.lemmas.List.{length-map, get_or-map}
 use Rattle.o2_words.specs.Forms.{texts, Form, StopsAt, most_words}
 use Rattle.o2_words.proofs.Places.{IsFarthest, farther, farthest_of_two, reaches}

@@ -1,5 +1,5 @@
 -- A word that is not read, and a word more that is.
-use Rattle.std.proofs.Common.{◌≡◌, ◌+◌, ◌<◌, ℕ, List, length, get_or, [], sym, ◌∙◌, subst, string_bytes, arith}
+use Rattle.std.proofs.Common.{◌≡◌, ◌+◌, ◌<◌, ℕ, List, length, get_or, [], sym, subst, arith}
 use Rattle.o2_words.specs.Forms.{texts, Form, Follows}
 use Rattle.o2_words.proofs.Readings.{one_fewer}
 use Rattle.o2_words.proofs.Places.{text_at, within_texts, reads_more}

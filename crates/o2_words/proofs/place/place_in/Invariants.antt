@@ -1,6 +1,6 @@
 -- The words so far are read.
 use Rattle.std.proofs.Common.{◌+◌, ◌≤◌, take}
-use Rattle.o2_words.specs.Forms.{Words, Form, Leads, texts, most_words}
+use Rattle.o2_words.specs.Forms.{Leads, texts, most_words}
 use Rattle.o2_words.proofs.place.place_in.Given as goal
 
 abbrev pub invariant-loop-place : goal.invariant-loop-place
