@@ -72,7 +72,6 @@ pub fn read_blocks<D: Disk, const N: usize>(
     ensures reads { OnlyReads view.old view.new }
     ensures fault { IsErrOf result ViewFault.DeviceFault → Rose (view_state view.old).faults (view_state view.new).faults }
 {
-    let _bytes = block_bytes(geo);
     let found = read_inode(alloc, view, geo, inode)?;
     let bytes = found.block.as_slice();
     let dinode = read_dinode(bytes);

@@ -1,9 +1,13 @@
 -- The blocks are those that the records map, or the inline bytes.
-use Rattle.std.proofs.Common.{◌≡◌, length, ◌∙◌, ap}
+use Rattle.std.proofs.Common.{◌≡◌, length, ◌∙◌, ap, arith}
 use Rattle.std.proofs.lemmas.Result.{IfOk-weaker}
 use Rattle.o2_extent.specs.Seen.{volume_seen}
+use Rattle.o2_extent.proofs.Sizes.{few_bytes}
 use Rattle.o2_dir.proofs.AnyBlocks.{inline_blocks, mapped_blocks, inline_told, size_told_of}
 use Rattle.o2_dir.proofs.directory_blocks.read_blocks.Goals as goal
+
+pub read_inline-requires-clause-most : goal.read_inline-requires-clause-most
+read_inline-requires-clause-most g c = omega (arith, few_bytes c.args.geo.now c.requires.geo.sizes, c.in_ok-found.ensures.size, ap length c.as_slice-bytes.ensures)
 
 pub returns-then-is_inline-clause-read : goal.returns-then-is_inline-clause-read
 returns-then-is_inline-clause-read g c I told =
