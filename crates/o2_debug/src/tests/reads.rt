@@ -1,14 +1,15 @@
 // How often the disk is called for a query: once for each block that it needs.
-ghost use Rattle.std.specs.Prelude.{◌≤◌, ◌+◌, ◌*◌, length};
-ghost use Rattle.o2_disk.specs.Device.{SameDevice, IsWritable};
+ghost use Rattle.std.specs.Prelude.{◌≤◌, ◌+◌, length};
+ghost use Rattle.o2_disk.specs.Device.{IsWritable};
 
 use super::{answered, path, volume};
 use crate::Query;
-use o2_disk::{Disk, MemDisk, MemSink};
+use o2_disk::{Disk, Failed, How, MemDisk, MemSink};
 use o2_ondisk::{
     Dinode, ExtentBlock, ExtentListHeader, ExtentRec, ExtentSize, InodeFlags, Signature,
     read_dinode, write_dinode, write_extent_block, write_extent_list_header, write_extent_rec,
 };
+use o2_test_volumes::put_small_volume;
 use std::alloc::Global;
 use std::process::Abort;
 use std::test::Fail;
@@ -92,6 +93,26 @@ fn leaf(blkno: u64, cpos: u32) -> [u8; 4096]
     block
 }
 
+// Puts the file and its two extent blocks where the small volume has the file `a`.
+fn put_tree<D: Disk>(disk: &mut D) -> Result<(), Failed>
+    requires disk { 128 ≤ (D.state disk.old).sectors }
+    requires writable { IsWritable (D.state disk.old).attached }
+{
+    disk.write(64, &tree())?;
+    disk.write(72, &leaf(9, 0))?;
+    disk.write(80, &leaf(10, 200))?;
+    Ok(())
+}
+
+fn volume_with_tree(rt: &impl Abort, alloc: Global) -> Result<MemDisk, Fail> {
+    let mut disk = MemDisk::new(alloc, 128)?;
+    disk.attach(alloc, "made", How::ReadWrite)?;
+    assert!(rt; disk.sectors() >= 128);
+    put_small_volume(&mut disk)?;
+    put_tree(&mut disk)?;
+    Ok(disk)
+}
+
 // How often the disk is called for the query.
 fn calls_of(
     rt: &impl Abort,
@@ -108,25 +129,20 @@ fn calls_of(
 #[test]
 fn reads_each_block_once(rt: HostRuntime) -> Result<(), Fail> {
     let alloc = rt.alloc();
-    let mut disk = volume(&rt, alloc)?;
+    let mut disk = volume_with_tree(&rt, alloc)?;
     let stat = Query::Stat {
         path: path(alloc, "/a")?,
     };
     let cat = Query::Cat {
         path: path(alloc, "/a")?,
     };
-    let first = calls_of(&rt, alloc, &mut disk, &stat)?;
+    let first = calls_of(&rt, alloc, &mut volume(&rt, alloc)?, &stat)?;
     assert!(rt; first < 100);
-    disk.write(64, &tree())?;
-    disk.write(72, &leaf(9, 0))?;
-    disk.write(80, &leaf(10, 200))?;
     // The two extent blocks.
     assert_eq!(rt; calls_of(&rt, alloc, &mut disk, &stat)?, first + 2);
     // And the blocks of the clusters that are written, of no hole and of no cluster that is not.
-    assert_eq!(rt;
-        calls_of(&rt, alloc, &mut disk, &cat)?,
-        first + 2 + 2 * WRITTEN
-    );
+    let all = calls_of(&rt, alloc, &mut disk, &cat)?;
+    assert_eq!(rt; all, first + 2 + 2 * WRITTEN);
     Ok(())
 }
 
@@ -143,6 +159,7 @@ fn reads_each_inode_on_the_way_twice_at_most(rt: HostRuntime) -> Result<(), Fail
     let at_root = calls_of(&rt, alloc, &mut disk, &root)?;
     assert!(rt; at_root < 100);
     // Each name is looked up in the root, and the inode that it names is judged.
-    assert!(rt; calls_of(&rt, alloc, &mut disk, &dots)? <= at_root + 6);
+    let at_dots = calls_of(&rt, alloc, &mut disk, &dots)?;
+    assert!(rt; at_dots <= at_root + 6);
     Ok(())
 }

@@ -1,5 +1,5 @@
 -- A block has few bytes, and what is wrong with the blocks is wrong with the directory.
-use Rattle.std.proofs.Common.{◌≡◌, true, arith}
+use Rattle.std.proofs.Common.{arith}
 use Rattle.std.proofs.lemmas.Result.{IfErr-weaker}
 use Rattle.o2_extent.specs.Seen.{volume_seen}
 use Rattle.o2_extent.proofs.Sizes.{few_bytes}

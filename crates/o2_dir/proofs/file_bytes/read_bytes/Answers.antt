@@ -1,6 +1,5 @@
 -- What was read once tells the bytes.
 use Rattle.std.proofs.Common.{◌∙◌}
-use Rattle.o2_extent.specs.Seen.{volume_seen}
 use Rattle.o2_dir.proofs.file_bytes.read_bytes.Goals as goal
 
 pub returns-clause-bytes : goal.returns-clause-bytes
