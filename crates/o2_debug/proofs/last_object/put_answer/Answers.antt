@@ -1,7 +1,6 @@
 -- The text of each query, for an inode that is sound and of its kind.
-use Rattle.std.proofs.Common.{◌≡◌, inl, inr, true, arith, ap, subst}
+use Rattle.std.proofs.Common.{◌≡◌, inl, inr, true, arith, subst}
 use Rattle.std.proofs.lemmas.Result.{IfErr-weaker, on_ok_weaker}
-use Rattle.o2_ondisk.specs.declared.dinode.Dinode.{Dinode}
 use Rattle.o2_model.specs.Inodes.{kind}
 use Rattle.o2_extent.specs.Seen.{volume_seen}
 use Rattle.o2_extent.proofs.Views.{only_none}
