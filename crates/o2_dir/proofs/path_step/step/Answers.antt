@@ -14,7 +14,7 @@ look_up_in-requires g c = (
         ap length c.as_slice.ensures ∙ (rw c.in-Some.is at c.in_ok-block.ensures.size),
         (
           (let long = rw c.in-Some.is at c.in_ok-block.ensures.long in
-          omega (arith, ap length c.as_slice.ensures, long)),
+              omega (arith, ap length c.as_slice.ensures, long)),
           (
             λ I after.
                 let holds = rw c.in-Some.is at c.in_ok-block.ensures.holds in
