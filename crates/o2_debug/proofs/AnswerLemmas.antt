@@ -6,12 +6,10 @@ use Rattle.o2_ondisk.specs.declared.dinode.Dinode.{Dinode}
 use Rattle.o2_model.specs.declared.check.Check.{Check}
 use Rattle.o2_model.specs.declared.check.Check.TheVariants as checks
 use Rattle.o2_model.specs.Words.{IsLeast}
-use Rattle.o2_model.specs.Volume.{Volume, dinode, is_valid}
-use Rattle.o2_model.specs.Inodes.{kind, is_directory, is_directory_kind, is_file, is_file_kind, is_link}
-use Rattle.o2_model.specs.Checks.Extent.{extent_faults}
+use Rattle.o2_model.specs.Volume.{Volume, dinode}
+use Rattle.o2_model.specs.Inodes.{kind, is_directory, is_directory_kind, is_file_kind}
 use Rattle.o2_model.specs.Checks.DirBlock.{dir_block_faults}
 use Rattle.o2_dir.specs.Fails.{FailsNone, FailsFirst}
-use Rattle.o2_dir.specs.FileData.{HasBytes, DataFailsFirst}
 use Rattle.o2_debug.specs.declared.query.Query.{Query}
 use Rattle.o2_debug.specs.declared.query.Query.TheVariants.{Ls, Stat, Cat}
 use Rattle.o2_debug.specs.Objects.{IsSound}
@@ -31,16 +29,6 @@ blocks_alone v d check at sound (inr (none, inl size)) = absurd (no_least at (su
 blocks_alone v d check at sound (inr (none, inr (fits, inl block))) = block
 blocks_alone v d check at sound (inr (none, inr (fits, inr (filled, nothing)))) = absurd nothing
 
--- and nothing of a sound file
-pub data_holds : (v : Volume) (b : ℕ) (check : Check) (at : ℕ) → IsSound v b → DataFailsFirst v b check at → ⊥
-unfolding DataFailsFirst
-data_holds v b check at sound (inl extent) = no_least at (subst (IsLeast at) sound.extent extent.1)
-data_holds v b check at sound (inr (none, inl size)) = no_least at (subst (IsLeast at) sound.size size.1)
-data_holds v b check at sound (inr (none, inr (fits, nothing))) = nothing
-
-pub extents_hold : (v : Volume) (b at : ℕ) → IsSound v b → IsLeast at (extent_faults v b) → ⊥
-extents_hold v b at sound least = no_least at (subst (IsLeast at) sound.extent least)
-
 module _ (v : Volume) (b : ℕ) (d : Dinode) (is : d ≡ dinode v b) where
   pub asked_kind : (query : Query) (test : Bool) → is_for query (kind_of_mode d.mode) ≡ test → is_for query (kind v b) ≡ test
   asked_kind query test told = ap (λ (e : Dinode). is_for query (kind_of_mode e.mode)) (sym is) ∙ told
@@ -48,10 +36,6 @@ module _ (v : Volume) (b : ℕ) (d : Dinode) (is : d ≡ dinode v b) where
 pub is_directory_of : (v : Volume) (b : ℕ) → is_directory_kind (kind v b) ≡ true → is_directory v b ≡ true
 unfolding is_directory
 is_directory_of v b is = is
-
-pub file_has_bytes : (v : Volume) (b : ℕ) → is_valid v b ≡ true → is_file_kind (kind v b) ≡ true → HasBytes v b
-unfolding is_file is_link
-file_has_bytes v b valid is = record { valid = valid; kind = rw is refl }
 
 module _ (v : Volume) (b : ℕ) (path : List ℕ) (sound : IsSound v b) where
   pub ls_answerable : is_directory_kind (kind v b) ≡ true → FailsNone v b → IsAnswerable (Ls path) v b

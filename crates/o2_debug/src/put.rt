@@ -18,8 +18,8 @@ ghost use Rattle.o2_debug.specs.Texts.{ls_text, stat_text};
 
 use crate::DebugFault;
 use crate::lines::Lines;
-use o2_cause::put_lines;
 use crate::text::{ls_lines, stat_lines};
+use o2_cause::put_lines;
 use o2_dir::InodeReading;
 use o2_disk::{Disk, Sink};
 use o2_model::Geo;

@@ -28,6 +28,7 @@ pub fn ask<D: Disk, K: Sink, const N: usize>(
     requires least { 9 ≤ geo.now.block_bits }
     requires most { geo.now.block_bits ≤ 12 }
     requires path { IsPath (path_of query.now) }
+    requires kept { 1 ≤ N }
     ensures skeleton { OnOk result ((I : Image) → (D.state device.old).content ≡ Some I → HasSkeleton (volume_seen geo.now I)) }
     ensures all { OnOk result ((I : Image) → (D.state device.old).content ≡ Some I → AnswersAt query.now (volume_seen geo.now I) (K.state out.old) (K.state out.new)) }
     ensures some { (I : Image) → (D.state device.old).content ≡ Some I

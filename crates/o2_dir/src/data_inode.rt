@@ -12,7 +12,7 @@ ghost use Rattle.o2_extent.specs.Reads.{OnlyReads};
 ghost use Rattle.o2_dir.specs.FileData.{HasBytes};
 
 use o2_disk::Disk;
-use o2_extent::{block_bytes, volume_blocks};
+use o2_extent::{look, volume_blocks};
 use o2_model::Geo;
 use o2_ondisk::{Dinode, InodeFlags, Kind, Signature, read_dinode};
 use o2_view::{View, ViewFault};
@@ -56,8 +56,7 @@ pub fn has_bytes<D: Disk, const N: usize>(
     ensures reads { OnlyReads view.old view.new }
     ensures fault { IsErrOf result ViewFault.DeviceFault → Rose (view_state view.old).faults (view_state view.new).faults }
 {
-    let _bytes = block_bytes(geo);
-    let block = view.block(inode)?;
+    let block = look(view, geo, inode)?;
     let dinode = read_dinode(block.as_slice());
     if !is_valid_dinode(geo, inode, &dinode) {
         return Ok(false);

@@ -18,7 +18,7 @@ use crate::data_inode::is_valid_dinode;
 use crate::kinds::is_of_directory;
 use crate::names::look_up_in;
 use o2_disk::Disk;
-use o2_extent::{block_bytes, look, volume_blocks};
+use o2_extent::{look, volume_blocks};
 use o2_model::{Check, Geo};
 use o2_ondisk::read_dinode;
 use o2_view::{Block, View, ViewFault};
@@ -56,8 +56,7 @@ pub fn is_valid_at<D: Disk, const N: usize>(
     if volume_blocks(geo) <= b {
         return Ok(false);
     }
-    let _bytes = block_bytes(geo);
-    let block = view.block(b)?;
+    let block = look(view, geo, b)?;
     let dinode = read_dinode(block.as_slice());
     Ok(is_valid_dinode(geo, b, &dinode))
 }

@@ -83,7 +83,6 @@ fn add_piece<D: Disk, const N: usize>(
     ensures reads { OnlyReads view.old view.new }
     ensures fault { IsErrOf result ViewFault.DeviceFault → Rose (view_state view.old).faults (view_state view.new).faults }
 {
-    let _bytes = block_bytes(geo);
     match written_block(geo, leaves, j) {
         Some(b) => {
             let block = look(view, geo, b)?;

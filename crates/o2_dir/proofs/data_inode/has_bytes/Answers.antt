@@ -1,6 +1,5 @@
 -- The dinode that was read is the volume's.
-use Rattle.std.proofs.Common.{◌≡◌, ◌^◌, sym, ◌∙◌, ap}
-use Rattle.o2_disk.specs.Image.{block_at}
+use Rattle.std.proofs.Common.{◌≡◌, sym, ◌∙◌, ap}
 use Rattle.o2_ondisk.specs.Dinodes.{dinode_of}
 use Rattle.o2_model.specs.Volume.{dinode}
 use Rattle.o2_extent.specs.Seen.{volume_seen}
@@ -12,7 +11,7 @@ returns-then-not-is_valid_dinode-clause-no g c is I told has =
     let v = volume_seen c.args.geo.now I in
     let b = c.args.inode in
     let tells : c.read_dinode-dinode.result ≡ dinode v b =
-    c.read_dinode-dinode.ensures ∙ ap dinode_of (c.as_slice.ensures ∙ (c.in_ok-block.ensures.bytes I told ∙ ap (λ bits. block_at (2 ^ bits) I b) (sym c.requires.geo.bits))) in
+    c.read_dinode-dinode.ensures ∙ ap dinode_of (c.as_slice.ensures ∙ c.in_ok-block.ensures.bytes I told) in
     true_is_false (sym has.valid ∙ (sym (c.is_valid_dinode.ensures I tells) ∙ c.if-not-is_valid_dinode.true))
 
 pub returns-clause-yes : goal.returns-clause-yes
@@ -20,7 +19,7 @@ returns-clause-yes g c is I told =
     let v = volume_seen c.args.geo.now I in
     let b = c.args.inode in
     let tells : c.read_dinode-dinode.result ≡ dinode v b =
-    c.read_dinode-dinode.ensures ∙ ap dinode_of (c.as_slice.ensures ∙ (c.in_ok-block.ensures.bytes I told ∙ ap (λ bits. block_at (2 ^ bits) I b) (sym c.requires.geo.bits))) in
+    c.read_dinode-dinode.ensures ∙ ap dinode_of (c.as_slice.ensures ∙ c.in_ok-block.ensures.bytes I told) in
     let kind = kind_told v b c.read_dinode-dinode.result tells in
     record { valid = sym (c.is_valid_dinode.ensures I tells) ∙ c.if-not-is_valid_dinode.false; kind = sym kind ∙ (sym c.is_of_file_or_link.ensures ∙ is) }
 
@@ -29,6 +28,6 @@ returns-clause-no g c is I told has =
     let v = volume_seen c.args.geo.now I in
     let b = c.args.inode in
     let tells : c.read_dinode-dinode.result ≡ dinode v b =
-    c.read_dinode-dinode.ensures ∙ ap dinode_of (c.as_slice.ensures ∙ (c.in_ok-block.ensures.bytes I told ∙ ap (λ bits. block_at (2 ^ bits) I b) (sym c.requires.geo.bits))) in
+    c.read_dinode-dinode.ensures ∙ ap dinode_of (c.as_slice.ensures ∙ c.in_ok-block.ensures.bytes I told) in
     let kind = kind_told v b c.read_dinode-dinode.result tells in
     true_is_false (sym has.kind ∙ (sym kind ∙ (sym c.is_of_file_or_link.ensures ∙ is)))

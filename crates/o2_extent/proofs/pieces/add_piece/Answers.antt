@@ -6,7 +6,11 @@ use Rattle.std.specs.Option.{option_map_or}
 use Rattle.std.proofs.lemmas.List.{length-append, length-replicate}
 use Rattle.o2_extent.specs.Seen.{volume_seen}
 use Rattle.o2_extent.proofs.FileBytes.{part_is, zeros_are}
+use Rattle.o2_extent.proofs.Sizes.{few_bytes}
 use Rattle.o2_extent.proofs.pieces.add_piece.Goals as goal
+
+pub put_zeros-requires : goal.put_zeros-requires
+put_zeros-requires g c = omega (arith, few_bytes c.args.geo.now c.requires.geo.sizes, c.requires.inside)
 
 pub returns-in_ok-put_all-in-Some-clause-bytes : goal.returns-in_ok-put_all-in-Some-clause-bytes
 returns-in_ok-put_all-in-Some-clause-bytes g c I told rising =
