@@ -1,5 +1,5 @@
 // The line of a cause, put at the end of a run.
-ghost use Rattle.std.specs.Prelude.{◌≡◌};
+ghost use Rattle.std.specs.Prelude.{◌≡◌, []};
 ghost use Rattle.o2_disk.specs.Device.{Rose};
 ghost use Rattle.o2_disk.specs.Output.{StopsAtFault};
 ghost use Rattle.o2_cause.specs.Causes.{cause_line, IsDone, EndsBy};
@@ -15,6 +15,7 @@ use std::alloc::Global;
 pub fn put_line<K: Sink>(alloc: Global, tool: &str, cause: Cause, out: &mut K) -> Cause
     ensures ends { EndsBy cause result }
     ensures still { IsDone cause → out.new ≡ out.old }
+    ensures silent { cause_line tool.now result ≡ [] → out.new ≡ out.old }
     ensures all { (Rose (K.state out.old).faults (K.state out.new).faults → ⊥) → Takes (K.state out.old) (K.state out.new) (cause_line tool.now result) }
     ensures some { TakesSome (K.state out.old) (K.state out.new) (cause_line tool.now result) }
     ensures stops { StopsAtFault (K.state out.old) (K.state out.new) }

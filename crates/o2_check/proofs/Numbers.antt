@@ -1,15 +1,15 @@
 -- SUPER's demands on the numbers, one by one.
-use Rattle.std.proofs.Common.{◌≡◌, ℕ, ◌-◌, ◌*◌, ◌/◌, ◌^◌, ◌<◌, ◌≤◌, Bool, true, false, ◌&&◌, not, ◌==◌, nat_le, nat_lt, refl, sym, ◌∙◌, ap, arith}
+use Rattle.std.proofs.Common.{◌≡◌, ℕ, ◌-◌, ◌*◌, ◌/◌, ◌^◌, ◌<◌, ◌≤◌, Bool, true, false, ◌&&◌, not, ◌==◌, nat_le, nat_lt, refl, sym, ◌∙◌, ap, subst, arith}
 use Rattle.std.proofs.lemmas.Bool.{and_left, and_right}
 use Rattle.std.proofs.lemmas.Bool.Decides.{nat_tests}
-use Rattle.o2_disk.specs.Image.{Image}
 use Rattle.o2_model.specs.Words.{among}
 use Rattle.o2_model.specs.Volume.{Volume, per_cluster, blocks}
 use Rattle.o2_model.specs.ClusterGroups.{group_size, backup_clusters}
 use Rattle.o2_model.specs.Checks.Super.{has_sound_sizes, has_sound_first_group, has_sound_directories, has_sound_numbers}
 use Rattle.o2_model.specs.declared.geo.Geo.{Geo}
-use Rattle.o2_extent.specs.Seen.{HasSizes, volume_seen}
-use Rattle.o2_check.specs.Numbers.{is_place, AreWithin}
+use Rattle.o2_view.specs.Geos.{HasSizes, HasNumbers, blocks_of}
+use Rattle.o2_view.proofs.Numbers.{sound_numbers}
+use Rattle.o2_check.specs.Numbers.{is_place, FitsIn}
 use Rattle.o2_check.proofs.Tests.{true_and}
 
 -- ---- the first group
@@ -50,25 +50,9 @@ directories_decide v count n sizes first count_is n_is fits =
     last_of_four _ _ _ _ sizes first (short_enough (blocks v) v.on_device (omega (arith, count_is, n_is, fits)))
 
 -- ---- what a reader is given
-differ : (n m : ℕ) → not (n == m) ≡ true → n ≡ m → ⊥
-differ n m h is = grind (arith, nat_tests)
-
-and_second : (a b : Bool) → (a && b) ≡ true → b ≡ true
-and_second true b h = h
-and_second false b h = cc
-
-two_within : (root sysdir n count : ℕ) → n ≤ count → ((nat_lt 0 root && nat_lt root n) && (nat_lt 0 sysdir && nat_lt sysdir n) && not (root == sysdir)) ≡ true → (2 < count) × (root < count) × (sysdir < count)
-two_within root sysdir n count fits h =
-    let some_root : 0 < root = grind (arith, nat_tests) in
-    let low_root : root < n = grind (arith, nat_tests) in
-    let some_sysdir : 0 < sysdir = grind (arith, nat_tests) in
-    let low_sysdir : sysdir < n = grind (arith, nat_tests) in
-    let others : root ≡ sysdir → ⊥ = differ root sysdir (and_second ((nat_lt 0 root && nat_lt root n) && (nat_lt 0 sysdir && nat_lt sysdir n)) (not (root == sysdir)) h) in
-    (omega (arith, some_root, low_root, some_sysdir, low_sysdir, others, fits), omega (arith, low_root, fits), omega (arith, low_sysdir, fits))
-
-pub all_within : (geo : Geo) (I : Image) (count n : ℕ) → HasSizes geo → n ≡ geo.clusters * 2 ^ (geo.cluster_bits - geo.block_bits) → n ≤ count
-    → has_sound_directories (volume_seen geo I) ≡ true → AreWithin geo count
-all_within geo I count n sizes n_is fits h =
-    let whole : geo.clusters * 2 ^ (geo.cluster_bits - geo.block_bits) ≤ count = omega (arith, n_is, fits) in
-    let all = two_within geo.root geo.sysdir (geo.clusters * 2 ^ (geo.cluster_bits - geo.block_bits)) count whole h in
-    record { sizes = sizes; volume = whole; super = all.0; root = all.1; sysdir = all.2 }
+pub all_within : (geo : Geo) (count n : ℕ) → HasSizes geo → n ≡ blocks_of geo → n ≤ count → (v : Volume) → v.geo ≡ geo → has_sound_numbers v ≡ true → FitsIn geo count
+all_within geo count n sizes n_is fits v same sound = record {
+  sizes = sizes;
+  numbers = subst HasNumbers same (sound_numbers v sound);
+  volume = omega (arith, n_is, fits);
+}

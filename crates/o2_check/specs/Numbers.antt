@@ -1,7 +1,7 @@
 -- What SUPER asks of the numbers alone, and what a reader of the volume is given by it.
-use Rattle.std.specs.Prelude.{ℕ, ◌-◌, ◌*◌, ◌/◌, ◌%◌, ◌^◌, ◌<◌, ◌≤◌, Bool, ◌&&◌, ◌==◌, nat_lt, nat_le}
+use Rattle.std.specs.Prelude.{ℕ, ◌/◌, ◌%◌, ◌≤◌, Bool, ◌&&◌, ◌==◌, nat_lt, nat_le}
 use Rattle.o2_model.specs.declared.geo.Geo.{Geo}
-use Rattle.o2_extent.specs.Seen.{HasSizes}
+use Rattle.o2_view.specs.Geos.{HasSizes, HasNumbers, blocks_of}
 
 -- the first group descriptor begins a cluster behind the superblock, one of a group of this size and of the volume
 abbrev pub is_place : ℕ → ℕ → Geo → Bool
@@ -11,10 +11,8 @@ is_place pc size geo =
     && nat_lt (geo.first_group / pc) size
     && nat_lt (geo.first_group / pc) geo.clusters
 
--- sizes that a volume can have, and the volume, its super, its root and its system directory are below this block
-pub record AreWithin (geo : Geo) (count : ℕ) : Type 0 where
+-- sizes and numbers that a volume can have, which has no more blocks than these
+pub record FitsIn (geo : Geo) (count : ℕ) : Type 0 where
   pub sizes : HasSizes geo
-  pub volume : geo.clusters * 2 ^ (geo.cluster_bits - geo.block_bits) ≤ count
-  pub super : 2 < count
-  pub root : geo.root < count
-  pub sysdir : geo.sysdir < count
+  pub numbers : HasNumbers geo
+  pub volume : blocks_of geo ≤ count

@@ -1,55 +1,68 @@
 // SYSDIR and ROOT: the volume's two directories.
-ghost use Rattle.std.specs.Prelude.{◌≡◌, ◌<◌, ◌&&◌, true, Some, IfOk, IsErrOf};
-ghost use Rattle.o2_disk.specs.Image.{Image};
-ghost use Rattle.o2_disk.specs.Device.{Rose};
-ghost use Rattle.o2_view.specs.Views.{view_state, view_blocks};
+ghost use Rattle.std.specs.Prelude.{◌≡◌, ◌^◌, ◌≤◌, ◌&&◌, length, true, false, IfOk};
+ghost use Rattle.std.specs.Option.{IfNone, IfSome};
+ghost use Rattle.std.specs.Result.{IfErr};
+ghost use Rattle.o2_view.specs.Views.{Shows, OnlyReads};
+ghost use Rattle.o2_view.specs.Geos.{LiesIn, Reaches};
+ghost use Rattle.o2_view.specs.OwnChecks.{BlockFails};
 ghost use Rattle.o2_model.specs.Orders.{is_none_of};
-ghost use Rattle.o2_model.specs.Volume.{is_valid};
+ghost use Rattle.o2_model.specs.Volume.{is_valid, Volume};
 ghost use Rattle.o2_model.specs.Inodes.{is_directory};
 ghost use Rattle.o2_model.specs.Checks.Sysdir.{directory_faults, is_sound_directory as is_directory_sound};
-ghost use Rattle.o2_extent.specs.Seen.{LiesIn, volume_seen};
-ghost use Rattle.o2_extent.specs.Reads.{OnlyReads};
 
 use crate::entry_names::have_sound_names;
-use o2_dir::{DirFault, entries, is_directory_at, is_valid_at};
+use o2_dir::{DirFault, entries_in, is_of_directory, is_valid_dinode};
 use o2_disk::Disk;
+use o2_extent::look;
 use o2_model::Geo;
-use o2_view::{View, ViewFault};
+use o2_ondisk::read_dinode;
+use o2_view::{Block, View, ViewFault};
 use std::alloc::Global;
 
-/// Whether block `inode` is a valid dinode of a directory.
-pub fn is_valid_directory<D: Disk, const N: usize>(
+/// The block of a valid dinode of a directory, read once. None where block `inode` is no such dinode.
+pub fn valid_directory<D: Disk, const N: usize>(
     view: &mut View<'_, D, N>,
     geo: &Geo,
     inode: u64,
-) -> Result<bool, ViewFault>
-    requires geo { LiesIn geo.now view.old }
-    requires inode { inode < view_blocks view.old }
-    ensures is { IfOk result (λ is. (I : Image) → (view_state view.old).content ≡ Some I → is ≡ (is_valid (volume_seen geo.now I) inode && is_directory (volume_seen geo.now I) inode)) }
+) -> Result<Option<Block>, ViewFault>
+    requires inode { Reaches geo.now view.old inode }
+    ensures some { IfOk result (λ found. IfSome found (λ block. (v : Volume) → Shows view.old geo.now v
+        → ((is_valid v inode && is_directory v inode) ≡ true) × (block ≡ v.at inode))) }
+    ensures none { IfOk result (λ found. IfNone found ((v : Volume) → Shows view.old geo.now v → (is_valid v inode && is_directory v inode) ≡ false)) }
+    ensures size { IfOk result (λ found. IfSome found (λ block. length block ≡ 2 ^ geo.now.block_bits)) }
+    ensures long { IfOk result (λ found. IfSome found (λ block. 512 ≤ length block)) }
     ensures reads { OnlyReads view.old view.new }
-    ensures fault { IsErrOf result ViewFault.DeviceFault → Rose (view_state view.old).faults (view_state view.new).faults }
+    ensures fails { IfErr result (BlockFails view.old view.new) }
 {
-    if !is_valid_at(view, geo, inode)? {
-        return Ok(false);
+    let block = look(view, geo, inode)?;
+    let dinode = read_dinode(block.as_slice());
+    if !is_valid_dinode(geo, inode, &dinode) {
+        return Ok(None);
     }
-    is_directory_at(view, geo, inode)
+    if !is_of_directory(&dinode) {
+        return Ok(None);
+    }
+    Ok(Some(block))
 }
 
-/// Whether EXTENT, INODE_SIZE, DIR_BLOCK, DIRENT_NAME and DIRENT_DUP hold for a directory.
+/// Whether EXTENT, INODE_SIZE, DIR_BLOCK, DIRENT_NAME and DIRENT_DUP hold for a directory whose block is in hand.
 fn has_sound_entries<D: Disk, const N: usize>(
     alloc: Global,
     view: &mut View<'_, D, N>,
     geo: &Geo,
     inode: u64,
+    bytes: &[u8],
 ) -> Result<bool, ViewFault>
     requires geo { LiesIn geo.now view.old }
-    requires inode { inode < view_blocks view.old }
-    requires directory { (I : Image) → (view_state view.old).content ≡ Some I → is_directory (volume_seen geo.now I) inode ≡ true }
-    ensures has { IfOk result (λ has. (I : Image) → (view_state view.old).content ≡ Some I → has ≡ is_none_of (directory_faults (volume_seen geo.now I) inode)) }
+    requires size { length bytes.now ≡ 2 ^ geo.now.block_bits }
+    requires long { 512 ≤ length bytes.now }
+    requires holds { (v : Volume) → Shows view.old geo.now v → bytes.now ≡ v.at inode }
+    requires directory { (v : Volume) → Shows view.old geo.now v → is_directory v inode ≡ true }
+    ensures has { IfOk result (λ has. (v : Volume) → Shows view.old geo.now v → has ≡ is_none_of (directory_faults v inode)) }
     ensures reads { OnlyReads view.old view.new }
-    ensures fault { IsErrOf result ViewFault.DeviceFault → Rose (view_state view.old).faults (view_state view.new).faults }
+    ensures fails { IfErr result (BlockFails view.old view.new) }
 {
-    match entries(alloc, view, geo, inode) {
+    match entries_in(alloc, view, geo, inode, bytes) {
         Ok(found) => Ok(have_sound_names(alloc, found)?),
         Err(DirFault::Bad { .. }) => Ok(false),
         Err(DirFault::Absent) => Ok(false),
@@ -65,14 +78,13 @@ pub fn is_sound_directory<D: Disk, const N: usize>(
     geo: &Geo,
     inode: u64,
 ) -> Result<bool, ViewFault>
-    requires geo { LiesIn geo.now view.old }
-    requires inode { inode < view_blocks view.old }
-    ensures is { IfOk result (λ is. (I : Image) → (view_state view.old).content ≡ Some I → is ≡ is_directory_sound (volume_seen geo.now I) inode) }
+    requires inode { Reaches geo.now view.old inode }
+    ensures is { IfOk result (λ is. (v : Volume) → Shows view.old geo.now v → is ≡ is_directory_sound v inode) }
     ensures reads { OnlyReads view.old view.new }
-    ensures fault { IsErrOf result ViewFault.DeviceFault → Rose (view_state view.old).faults (view_state view.new).faults }
+    ensures fails { IfErr result (BlockFails view.old view.new) }
 {
-    if !is_valid_directory(view, geo, inode)? {
+    let Some(block) = valid_directory(view, geo, inode)? else {
         return Ok(false);
-    }
-    has_sound_entries(alloc, view, geo, inode)
+    };
+    has_sound_entries(alloc, view, geo, inode, block.as_slice())
 }

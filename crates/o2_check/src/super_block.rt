@@ -1,12 +1,11 @@
 // SUPER: block 2 and its numbers.
-ghost use Rattle.std.specs.Prelude.{◌≡◌, ◌*◌, ◌/◌, ◌^◌, ◌<◌, ◌≤◌, length, true, Some, IfOk, IsErrOf};
-ghost use Rattle.o2_disk.specs.Image.{Image};
-ghost use Rattle.o2_disk.specs.Device.{Rose};
-ghost use Rattle.o2_view.specs.Views.{view_state, view_bits, view_blocks};
+ghost use Rattle.std.specs.Prelude.{◌≡◌, ◌/◌, ◌<◌, ◌≤◌, true, IfOk};
+ghost use Rattle.std.specs.Result.{IfErr};
+ghost use Rattle.o2_view.specs.Views.{view_bits, view_blocks, Shows, OnlyReads};
+ghost use Rattle.o2_view.specs.Geos.{LiesIn};
+ghost use Rattle.o2_view.specs.OwnChecks.{BlockFails};
 ghost use Rattle.o2_model.specs.Checks.Super.{is_super_dinode as is_super_at_two, is_sound_super};
-ghost use Rattle.o2_extent.specs.Seen.{LiesIn, volume_seen};
-ghost use Rattle.o2_extent.specs.Reads.{OnlyReads};
-ghost use Rattle.o2_check.specs.Numbers.{AreWithin};
+ghost use Rattle.o2_model.specs.Volume.{Volume};
 
 use crate::super_numbers::are_sound_numbers;
 use o2_disk::Disk;
@@ -24,10 +23,9 @@ fn is_super_dinode<D: Disk, const N: usize>(
     geo: &Geo,
 ) -> Result<bool, ViewFault>
     requires geo { LiesIn geo.now view.old }
-    requires inside { 2 < view_blocks view.old }
-    ensures is { IfOk result (λ is. (I : Image) → (view_state view.old).content ≡ Some I → is ≡ is_super_at_two (volume_seen geo.now I)) }
+    ensures is { IfOk result (λ is. (v : Volume) → Shows view.old geo.now v → is ≡ is_super_at_two v) }
     ensures reads { OnlyReads view.old view.new }
-    ensures fault { IsErrOf result ViewFault.DeviceFault → Rose (view_state view.old).faults (view_state view.new).faults }
+    ensures fails { IfErr result (BlockFails view.old view.new) }
 {
     let block = look(view, geo, SUPER_BLOCK)?;
     let dinode = read_dinode(block.as_slice());
@@ -42,11 +40,11 @@ pub fn has_sound_super<D: Disk, const N: usize>(
     requires bits { geo.now.block_bits ≡ view_bits view.old }
     requires least { 9 ≤ geo.now.block_bits }
     requires most { geo.now.block_bits ≤ 12 }
-    requires device { (I : Image) → (view_state view.old).content ≡ Some I → view_blocks view.old ≡ 512 * length I / 2 ^ geo.now.block_bits }
-    ensures is { IfOk result (λ is. (I : Image) → (view_state view.old).content ≡ Some I → is ≡ is_sound_super (volume_seen geo.now I)) }
-    ensures within { IfOk result (λ is. is ≡ true → AreWithin geo.now (view_blocks view.old)) }
+    requires device { (v : Volume) → Shows view.old geo.now v → view_blocks view.old ≡ v.on_device }
+    ensures is { IfOk result (λ is. (v : Volume) → Shows view.old geo.now v → is ≡ is_sound_super v) }
+    ensures lies { IfOk result (λ is. is ≡ true → LiesIn geo.now view.old) }
     ensures reads { OnlyReads view.old view.new }
-    ensures fault { IsErrOf result ViewFault.DeviceFault → Rose (view_state view.old).faults (view_state view.new).faults }
+    ensures fails { IfErr result (BlockFails view.old view.new) }
 {
     if !are_sound_numbers(geo, view.blocks()) {
         return Ok(false);

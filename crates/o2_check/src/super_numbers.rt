@@ -1,12 +1,12 @@
 // What SUPER asks of the numbers of the superblock.
-ghost use Rattle.std.specs.Prelude.{◌≡◌, ◌-◌, ◌+◌, ◌*◌, ◌/◌, ◌^◌, ◌≤◌, ◌<◌, length, true, map};
+ghost use Rattle.std.specs.Prelude.{◌≡◌, ◌-◌, ◌+◌, ◌*◌, ◌/◌, ◌^◌, ◌≤◌, ◌<◌, true, map};
 ghost use Rattle.std.specs.List.{range_with_len};
-ghost use Rattle.o2_disk.specs.Image.{Image};
+ghost use Rattle.o2_view.specs.Geos.{HasSizes};
 ghost use Rattle.o2_model.specs.Words.{among};
 ghost use Rattle.o2_model.specs.ClusterGroups.{backup_clusters};
 ghost use Rattle.o2_model.specs.Checks.Super.{has_sound_sizes as are_sound_sizes, has_sound_first_group as is_sound_first_group, has_sound_directories as are_sound_directories, has_sound_numbers};
-ghost use Rattle.o2_extent.specs.Seen.{HasSizes, volume_seen};
-ghost use Rattle.o2_check.specs.Numbers.{is_place, AreWithin};
+ghost use Rattle.o2_model.specs.Volume.{Volume};
+ghost use Rattle.o2_check.specs.Numbers.{is_place, FitsIn};
 
 use o2_extent::{block_bytes, blocks_per_cluster, volume_blocks};
 use o2_model::Geo;
@@ -18,7 +18,7 @@ const BACKUP_SUPER: u32 = 0x1;
 fn has_sound_sizes(geo: &Geo) -> bool
     requires least { 9 ≤ geo.now.block_bits }
     requires most { geo.now.block_bits ≤ 12 }
-    ensures told { (I : Image) → result ≡ are_sound_sizes (volume_seen geo.now I) }
+    ensures told { (v : Volume) → v.geo ≡ geo.now → result ≡ are_sound_sizes v }
     ensures sizes { result ≡ true → HasSizes geo.now }
 {
     12 <= geo.cluster_bits && geo.cluster_bits <= 20 && 1 <= geo.slots && geo.slots <= 255
@@ -40,7 +40,7 @@ fn is_backup_place(cluster_bits: u32, cluster: u64) -> bool
 /// Whether a backup of the superblock stands in the cluster.
 fn is_of_backup(geo: &Geo, cluster: u64) -> bool
     requires { HasSizes geo.now }
-    ensures { (I : Image) → result ≡ among (backup_clusters (volume_seen geo.now I)) cluster }
+    ensures { (v : Volume) → v.geo ≡ geo.now → result ≡ among (backup_clusters v) cluster }
 {
     if geo.compat & BACKUP_SUPER == 0 {
         return false;
@@ -64,7 +64,7 @@ fn has_place(geo: &Geo, per_cluster: u64, group_size: u64) -> bool
 /// Whether the first group descriptor has such a place, which is none of a backup.
 fn has_sound_first_group(geo: &Geo) -> bool
     requires { HasSizes geo.now }
-    ensures { (I : Image) → result ≡ is_sound_first_group (volume_seen geo.now I) }
+    ensures { (v : Volume) → v.geo ≡ geo.now → result ≡ is_sound_first_group v }
 {
     let per_cluster = blocks_per_cluster(geo);
     let group_size = 8 * (block_bytes(geo) - 64);
@@ -77,7 +77,7 @@ fn has_sound_first_group(geo: &Geo) -> bool
 /// Whether the root and the system directory are two blocks of the volume.
 fn has_sound_directories(geo: &Geo) -> bool
     requires { HasSizes geo.now }
-    ensures { (I : Image) → result ≡ are_sound_directories (volume_seen geo.now I) }
+    ensures { (v : Volume) → v.geo ≡ geo.now → result ≡ are_sound_directories v }
 {
     let blocks = volume_blocks(geo);
     0 < geo.root
@@ -91,8 +91,8 @@ fn has_sound_directories(geo: &Geo) -> bool
 pub fn are_sound_numbers(geo: &Geo, on_device: u64) -> bool
     requires least { 9 ≤ geo.now.block_bits }
     requires most { geo.now.block_bits ≤ 12 }
-    ensures told { (I : Image) → on_device ≡ 512 * length I / 2 ^ geo.now.block_bits → result ≡ has_sound_numbers (volume_seen geo.now I) }
-    ensures within { result ≡ true → AreWithin geo.now on_device }
+    ensures told { (v : Volume) → v.geo ≡ geo.now → on_device ≡ v.on_device → result ≡ has_sound_numbers v }
+    ensures within { result ≡ true → FitsIn geo.now on_device }
 {
     if !has_sound_sizes(geo) {
         return false;

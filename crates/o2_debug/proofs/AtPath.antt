@@ -1,16 +1,15 @@
 -- Where a path begins, and what it leads to.
 use Rattle.std.proofs.Common.{◌≡◌, ◌⊎◌, inl, inr, ℕ, true, List, [], ◌∷◌, ◌++◌, codes, refl, sym, ◌∙◌, ap, subst}
 use Rattle.std.specs.List.{list_all, join_with_byte}
-use Rattle.o2_disk.specs.Output.{SinkState}
 use Rattle.o2_model.specs.declared.geo.Geo.{Geo}
 use Rattle.o2_model.specs.Volume.{Volume, is_valid}
 use Rattle.o2_dir.specs.PathTexts.{is_name, AreJoinedNames, IsPath}
 use Rattle.o2_dir.specs.Paths.{Begins, Leads}
+use Rattle.o2_check.specs.Skeleton.{HasSkeleton}
 use Rattle.o2_debug.specs.declared.query.Query.{Query}
 use Rattle.o2_debug.specs.Answers.{path_of, text_of, IsAnswerable}
-use Rattle.o2_debug.specs.Commands.{HasStarts, IsAnswerText}
-use Rattle.o2_cause.specs.Taken.{TakesSome}
-use Rattle.o2_cause.proofs.Fronts.{takes_nothing, all_is_some, some_of_both}
+use Rattle.o2_debug.specs.Commands.{PathLeads, IsAnswerText}
+use Rattle.o2_debug.proofs.Starts.{valid_root, valid_sysdir}
 
 -- the names of what follows the beginning of a path
 record Named (rest : List ℕ) : Type 0 where
@@ -49,25 +48,20 @@ along : (v : Volume) (names : List (List ℕ)) (start i : ℕ) → is_valid v st
 along v [] start i valid leads = subst (λ (b : ℕ). is_valid v b ≡ true) (sym leads) valid
 along v (n ∷ names) start i valid leads = along v names leads.0.inode i leads.1.valid leads.2
 
-start_is_valid : (v : Volume) (text : List ℕ) (start : ℕ) (names : List (List ℕ)) → HasStarts v → Begins v.geo text start names → is_valid v start ≡ true
-start_is_valid v text start names has (inl root) = subst (λ (b : ℕ). is_valid v b ≡ true) (sym root.0) has.root
-start_is_valid v text start names has (inr system) = subst (λ (b : ℕ). is_valid v b ≡ true) (sym system.0) has.sysdir
+start_is_valid : (v : Volume) (text : List ℕ) (start : ℕ) (names : List (List ℕ)) → HasSkeleton v → Begins v.geo text start names → is_valid v start ≡ true
+start_is_valid v text start names skeleton (inl root) = subst (λ (b : ℕ). is_valid v b ≡ true) (sym root.0) (valid_root v skeleton)
+start_is_valid v text start names skeleton (inr system) = subst (λ (b : ℕ). is_valid v b ≡ true) (sym system.0) (valid_sysdir v skeleton)
 
-pub leads_to_valid : (v : Volume) (text : List ℕ) (i : ℕ) → IsPath text → HasStarts v → ((start : ℕ) (names : List (List ℕ)) → Begins v.geo text start names → Leads v start names i) → is_valid v i ≡ true
-leads_to_valid v text i path has leads =
-    let from = beginning v.geo text path in
-    along v from.names from.start i (start_is_valid v text from.start from.names has from.begins) (leads from.start from.names from.begins)
+pub leads_to_valid : (query : Query) (v : Volume) (b : ℕ) → IsPath (path_of query) → HasSkeleton v → PathLeads query v b → is_valid v b ≡ true
+leads_to_valid query v b path skeleton leads =
+    let from = beginning v.geo (path_of query) path in
+    along v from.names from.start b (start_is_valid v (path_of query) from.start from.names skeleton from.begins) (leads from.start from.names from.begins)
+
+-- the same beginning, by other names for the numbers and for the path
+pub same_beginning : (query : Query) (v : Volume) (geo : Geo) (text : List ℕ) (start : ℕ) (names : List (List ℕ)) → v.geo ≡ geo → text ≡ path_of query → Begins v.geo (path_of query) start names → Begins geo text start names
+same_beginning query v geo text start names numbers is begins =
+    subst (λ (t : List ℕ). Begins geo t start names) (sym is) (subst (λ (n : Geo). Begins n (path_of query) start names) numbers begins)
 
 -- the text of the inode that the path leads to
-pub answer_text : (query : Query) (v : Volume) (text : List ℕ) (i : ℕ) → text ≡ path_of query → ((start : ℕ) (names : List (List ℕ)) → Begins v.geo text start names → Leads v start names i) → IsAnswerable query v i
-    → IsAnswerText query v (text_of query v i)
-answer_text query v text i is leads answered = record {
-  inode = i;
-  leads = subst (λ (t : List ℕ). (start : ℕ) (names : List (List ℕ)) → Begins v.geo t start names → Leads v start names i) is leads;
-  answered = answered;
-  is = refl;
-}
-
--- nothing was put
-pub nothing_put : (d : SinkState) (text : List ℕ) → TakesSome d d text
-nothing_put d text = some_of_both text (all_is_some (takes_nothing d))
+pub answer_text : (query : Query) (v : Volume) (b : ℕ) → PathLeads query v b → IsAnswerable query v b → IsAnswerText query v (text_of query v b)
+answer_text query v b leads answered = record { inode = b; leads = leads; answered = answered; is = refl }

@@ -2,21 +2,28 @@
 use Rattle.std.proofs.Common.{◌≡◌, inl, inr, ℕ, true, false, [], refl, sym, subst}
 use Rattle.std.specs.Prelude.{Option, Some, None, IsSome, is_some}
 use Rattle.std.specs.Option.{option_map_or}
+use Rattle.o2_disk.specs.declared.disk.Disk as disk
 use Rattle.o2_ondisk.specs.Kinds.{kind_of_mode}
 use Rattle.o2_ondisk.specs.declared.dinode.Dinode.{Dinode}
 use Rattle.o2_ondisk.specs.declared.kind.Kind.{Kind}
-use Rattle.o2_model.specs.declared.check.Check.{Check}
 use Rattle.o2_model.specs.declared.check.Check.TheVariants as checks
-use Rattle.o2_model.specs.Words.{IsLeast}
+use Rattle.o2_model.specs.declared.geo.Geo.{Geo}
 use Rattle.o2_model.specs.Faults.{fails_unless}
 use Rattle.o2_model.specs.Volume.{Volume, dinode}
 use Rattle.o2_model.specs.Inodes.{kind}
 use Rattle.o2_model.specs.Checks.InodeKind.{has_kind, inode_kind_faults}
-use Rattle.o2_dir.specs.FileData.{DataFailsFirst}
+use Rattle.o2_view.specs.OwnChecks.{NoneFails, FailsFirst, ReadFails}
+use Rattle.o2_view.specs.Views.{view_state, Shows, OnlyReads}
+use Rattle.o2_view.specs.declared.fault.ReadFault.{ReadFault}
+use Rattle.o2_view.specs.declared.fault.ReadFault.TheVariants as read
+use Rattle.o2_view.specs.declared.view.View.{View}
+use Rattle.o2_view.proofs.Shown.{still_shows}
+use Rattle.o2_dir.specs.Fails.{data_checks}
 use Rattle.o2_dir.specs.InodeReadings.{TellsSound}
 use Rattle.o2_dir.specs.declared.inode_reading.InodeReading.{InodeReading}
 use Rattle.o2_dir.proofs.Whole.{fails_there}
-use Rattle.o2_debug.specs.Objects.{IsSound, FailsAsObject}
+use Rattle.o2_debug.specs.Objects.{object_checks}
+use Rattle.o2_debug.proofs.Rises.{rose_before}
 
 -- ---- kinds
 -- an inode of some kind does not fail for it
@@ -32,23 +39,25 @@ of_no_kind : (said : Option Kind) → is_some said ≡ false → option_map_or (
 of_no_kind None none = refl
 of_no_kind (Some which) none = absurd (let some : ⊥ = cc none in some)
 
-pub kind_fails : (v : Volume) (b at : ℕ) (check : Check) (d : Dinode) → d ≡ dinode v b → check ≡ checks.InodeKind → at ≡ b → is_some (kind_of_mode d.mode) ≡ false → FailsAsObject v b check at
-unfolding FailsAsObject
-kind_fails v b at check d is named placed none =
+pub kind_fails : (v : Volume) (b : ℕ) (d : Dinode) → d ≡ dinode v b → is_some (kind_of_mode d.mode) ≡ false → FailsFirst (object_checks b) v checks.InodeKind b
+kind_fails v b d is none =
     let told : is_some (kind v b) ≡ false = subst (λ (e : Dinode). is_some (kind_of_mode e.mode) ≡ false) is none in
-    inl (named, subst (λ (n : ℕ). IsLeast n (inode_kind_faults v b)) (sym placed) (fails_there b (has_kind v b) (of_no_kind (kind v b) told)))
+    inl (refl, fails_there b (has_kind v b) (of_no_kind (kind v b) told))
 
 -- ---- an inode of some kind, by its reading
 pub some_kind : (v : Volume) (b : ℕ) (d : Dinode) → d ≡ dinode v b → IsSome (kind_of_mode d.mode) → IsSome (kind v b)
 some_kind v b d is some = subst (λ (e : Dinode). IsSome (kind_of_mode e.mode)) is some
 
-pub sound_reading : (v : Volume) (b : ℕ) (reading : InodeReading) → IsSome (kind v b) → TellsSound v b reading → IsSound v b
-sound_reading v b reading some tells = record { kind = some; extent = tells.read.sound; size = tells.size }
-
-pub reading_fails : (v : Volume) (b : ℕ) (check : Check) (at : ℕ) → IsSome (kind v b) → DataFailsFirst v b check at → FailsAsObject v b check at
-unfolding DataFailsFirst FailsAsObject
-reading_fails v b check at some fails = inr (has_kind_of v b some, fails)
+pub sound_reading : (v : Volume) (b : ℕ) (reading : InodeReading) → IsSome (kind v b) → TellsSound v b reading → NoneFails (object_checks b) v
+sound_reading v b reading some tells = (has_kind_of v b some, (tells.read.sound, (tells.size, tt)))
 
 -- by the number that the reading itself tells
 pub of_own_number : (v : Volume) (b : ℕ) (reading : InodeReading) → TellsSound v b reading → TellsSound v reading.inode reading
 of_own_number v b reading tells = subst (λ (n : ℕ). TellsSound v n reading) (sym tells.number) tells
+
+-- what fails for its bytes is the first that fails for it
+pub reading_fails : {D : Type 0} {N : ℕ} {g : disk.Ghosts D} {old mid : View D N g} (new : View D N g) (geo : Geo) (b : ℕ) → OnlyReads old mid → ((v : Volume) → Shows old geo v → IsSome (kind v b))
+    → (fault : ReadFault) → ReadFails mid new geo (data_checks b) fault → ReadFails old new geo (object_checks b) fault
+reading_fails new geo b only some read.NoMemory fails = tt
+reading_fails {D} {N} {g} {old} {mid} new geo b only some read.DeviceFault fails = rose_before (view_state old).faults (view_state mid).faults (view_state new).faults only.later fails
+reading_fails new geo b only some (read.Bad check at) fails = record { own = inr fails.own; first = λ v shows. inr (has_kind_of v b (some v shows), fails.first v (still_shows only shows)) }

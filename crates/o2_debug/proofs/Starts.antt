@@ -5,7 +5,6 @@ use Rattle.o2_model.specs.Checks.Sysdir.{is_sound_directory}
 use Rattle.o2_model.specs.Checks.Root.{is_sound_root}
 use Rattle.o2_model.proofs.Faults.{holds_unless}
 use Rattle.o2_check.specs.Skeleton.{HasSkeleton}
-use Rattle.o2_debug.specs.Commands.{HasStarts}
 
 first_of : (x y : Bool) → (x && y) ≡ true → x ≡ true
 first_of true y both = refl
@@ -19,8 +18,8 @@ directory_is_valid : (v : Volume) (d : ℕ) → is_sound_directory v d ≡ true 
 unfolding is_sound_directory
 directory_is_valid v d sound = first_of (is_valid v d) _ (first_of _ _ sound)
 
-pub starts : (v : Volume) → HasSkeleton v → HasStarts v
-starts v h = record {
-  root = root_is_valid v (holds_unless v.geo.root (is_sound_root v) h.root);
-  sysdir = directory_is_valid v v.geo.sysdir (holds_unless v.geo.sysdir (is_sound_directory v v.geo.sysdir) h.sysdir);
-}
+pub valid_root : (v : Volume) → HasSkeleton v → is_valid v v.geo.root ≡ true
+valid_root v h = root_is_valid v (holds_unless v.geo.root (is_sound_root v) h.1.1.0)
+
+pub valid_sysdir : (v : Volume) → HasSkeleton v → is_valid v v.geo.sysdir ≡ true
+valid_sysdir v h = directory_is_valid v v.geo.sysdir (holds_unless v.geo.sysdir (is_sound_directory v v.geo.sysdir) h.1.0)

@@ -1,17 +1,14 @@
 -- The answer to a query by its path.
-use Rattle.std.specs.Prelude.{◌≡◌, ◌⊎◌, ℕ, true, List}
+use Rattle.std.specs.Prelude.{◌≡◌, ◌⊎◌, ℕ, List}
 use Rattle.o2_disk.specs.Output.{SinkState}
 use Rattle.o2_model.specs.declared.check.Check.{Check}
-use Rattle.o2_model.specs.Volume.{Volume, is_valid}
+use Rattle.o2_model.specs.Volume.{Volume}
+use Rattle.o2_view.specs.OwnChecks.{FailsFirst}
 use Rattle.o2_dir.specs.Paths.{Begins, Leads, OnTheWay, Lacks, IsNoDirectory, FailsAt}
 use Rattle.o2_debug.specs.declared.query.Query.{Query}
-use Rattle.o2_debug.specs.Answers.{path_of, text_of, IsAnswerable, IsOfOtherKind, FailsFor}
+use Rattle.o2_debug.specs.Objects.{query_checks}
+use Rattle.o2_debug.specs.Answers.{path_of, text_of, IsAnswerable, IsOfOtherKind}
 use Rattle.o2_cause.specs.Taken.{Takes, TakesSome}
-
--- the inodes at which paths begin are valid dinodes
-pub record HasStarts (v : Volume) : Type 0 where
-  pub root : is_valid v v.geo.root ≡ true
-  pub sysdir : is_valid v v.geo.sysdir ≡ true
 
 -- the query's path leads to this inode
 abbrev pub PathLeads : Query → Volume → ℕ → Type 0
@@ -32,10 +29,6 @@ AnswersAt query v old new = (text : List ℕ) × (IsAnswerText query v text × T
 abbrev pub AnswersSomeAt : Query → Volume → SinkState → SinkState → Type 0
 AnswersSomeAt query v old new = (text : List ℕ) × (IsAnswerText query v text × TakesSome old new text)
 
--- nothing was put, or first bytes of a text that answers the query
-abbrev pub BeginsAnswerAt : Query → Volume → SinkState → SinkState → Type 0
-BeginsAnswerAt query v old new = (new ≡ old) ⊎ AnswersSomeAt query v old new
-
 -- a name of the path has no live entry
 abbrev pub IsAbsent : Query → Volume → Type 0
 IsAbsent query v = (start : ℕ) (names : List (List ℕ)) → Begins v.geo (path_of query) start names → OnTheWay Lacks v start names
@@ -48,4 +41,4 @@ IsOfWrongKind query v = (start : ℕ) (names : List (List ℕ)) → Begins v.geo
 -- this is the first check that fails on the way, or for the last inode, and this is the least block at which it does
 abbrev pub FailsOn : Query → Volume → Check → ℕ → Type 0
 FailsOn query v failing at = (start : ℕ) (names : List (List ℕ)) → Begins v.geo (path_of query) start names
-    → OnTheWay (FailsAt failing at) v start names ⊎ ((b : ℕ) × (Leads v start names b × FailsFor query v b failing at))
+    → OnTheWay (FailsAt failing at) v start names ⊎ ((b : ℕ) × (Leads v start names b × FailsFirst (query_checks query b) v failing at))

@@ -1,5 +1,7 @@
 pub mod Answers
 pub mod Commands
+pub mod Devices
+pub mod Fails
 pub mod Faults
 pub mod Lines
 pub mod Objects

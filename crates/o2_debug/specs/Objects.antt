@@ -1,20 +1,20 @@
--- What is wrong with the inode at the end of a path.
-use Rattle.std.specs.Prelude.{◌≡◌, ℕ, [], ◌∷◌, IsSome}
-use Rattle.o2_model.specs.declared.check.Check.{Check}
+-- The checks of the inode at the end of a path.
+use Rattle.std.specs.Prelude.{ℕ, List, [], ◌∷◌, ◌++◌, if◌then◌else◌}
 use Rattle.o2_model.specs.declared.check.Check.TheVariants as check
-use Rattle.o2_model.specs.Volume.{Volume}
-use Rattle.o2_model.specs.Inodes.{kind}
+use Rattle.o2_model.specs.Inodes.{kind, is_directory_kind}
 use Rattle.o2_model.specs.Checks.InodeKind.{inode_kind_faults}
-use Rattle.o2_model.specs.Checks.Extent.{extent_faults}
-use Rattle.o2_model.specs.Checks.InodeSize.{inode_size_faults}
-use Rattle.o2_model.specs.FirstFault.{FailsFirst as FailsFirstOf}
+use Rattle.o2_model.specs.Checks.DirBlock.{dir_block_faults}
+use Rattle.o2_view.specs.OwnChecks.{OwnCheck}
+use Rattle.o2_dir.specs.Fails.{data_checks}
+use Rattle.o2_debug.specs.declared.query.Query.{Query}
+use Rattle.o2_debug.specs.declared.query.Query.TheVariants.{Ls, Stat, Cat}
 
--- INODE_KIND, EXTENT and INODE_SIZE hold for the inode
-pub record IsSound (v : Volume) (b : ℕ) : Type 0 where
-  pub kind : IsSome (kind v b)
-  pub extent : extent_faults v b ≡ []
-  pub size : inode_size_faults v b ≡ []
+-- what is judged of any inode: INODE_KIND, EXTENT and INODE_SIZE
+abbrev pub object_checks : ℕ → List OwnCheck
+object_checks b = record { check = check.InodeKind; faults = λ v. inode_kind_faults v b } ∷ data_checks b
 
--- This is the first of these checks that fails for the inode, and this is the least block at which it does.
-unfoldable pub FailsAsObject : Volume → ℕ → Check → ℕ → Type 0
-FailsAsObject v b = FailsFirstOf ((check.InodeKind, inode_kind_faults v b) ∷ (check.Extent, extent_faults v b) ∷ (check.InodeSize, inode_size_faults v b) ∷ [])
+-- what is judged for the query: these, and for entries DIR_BLOCK too, which fails for no inode but a directory
+abbrev pub query_checks : Query → ℕ → List OwnCheck
+query_checks (Ls path) b = object_checks b ++ record { check = check.DirBlock; faults = λ v. if is_directory_kind (kind v b) then dir_block_faults v b else [] } ∷ []
+query_checks (Stat path) b = object_checks b
+query_checks (Cat path) b = object_checks b

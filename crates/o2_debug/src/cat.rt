@@ -1,14 +1,11 @@
 // The bytes of a file, put piece by piece.
-ghost use Rattle.std.specs.Prelude.{◌≡◌, ℕ, Some, OnOk, IsErrOf};
+ghost use Rattle.std.specs.Prelude.{◌≡◌, [], OnOk, IsErrOf};
 ghost use Rattle.std.specs.Result.{IfErr};
-ghost use Rattle.o2_disk.specs.Image.{Image};
-ghost use Rattle.o2_disk.specs.Device.{Rose};
-ghost use Rattle.o2_disk.specs.Output.{FailsLast};
-ghost use Rattle.o2_view.specs.Views.{view_state};
-ghost use Rattle.o2_model.specs.declared.check.Check.{Check};
-ghost use Rattle.o2_extent.specs.Seen.{LiesIn, volume_seen};
-ghost use Rattle.o2_extent.specs.Reads.{OnlyReads};
+ghost use Rattle.o2_view.specs.Views.{Shows, OnlyReads};
+ghost use Rattle.o2_view.specs.Geos.{LiesIn};
+ghost use Rattle.o2_model.specs.Volume.{Volume};
 ghost use Rattle.o2_dir.specs.InodeReadings.{Fits, TellsSound};
+ghost use Rattle.o2_debug.specs.Fails.{AnswerFails};
 ghost use Rattle.o2_debug.specs.Texts.{cat_text};
 ghost use Rattle.o2_cause.specs.Taken.{Takes, TakesSome};
 
@@ -33,15 +30,12 @@ pub fn put_file<D: Disk, K: Sink, const N: usize>(
 ) -> Result<(), DebugFault>
     requires geo { LiesIn geo.now view.old }
     requires fits { Fits geo.now reading.now }
-    requires sound { (I : Image) → (view_state view.old).content ≡ Some I → TellsSound (volume_seen geo.now I) reading.now.inode reading.now }
-    ensures all { OnOk result ((I : Image) → (view_state view.old).content ≡ Some I → Takes (K.state out.old) (K.state out.new) (cat_text (volume_seen geo.now I) reading.now.inode)) }
-    ensures some { (I : Image) → (view_state view.old).content ≡ Some I → TakesSome (K.state out.old) (K.state out.new) (cat_text (volume_seen geo.now I) reading.now.inode) }
-    ensures bad { IfErr result (λ fault. (check : Check) (b : ℕ) → fault ≡ DebugFault.Bad check b → ⊥) }
-    ensures absent { IsErrOf result DebugFault.Absent → ⊥ }
-    ensures kind { IsErrOf result DebugFault.WrongKind → ⊥ }
+    requires sound { (v : Volume) → Shows view.old geo.now v → TellsSound v reading.now.inode reading.now }
+    ensures told { OnOk result ((v : Volume) → Shows view.old geo.now v → Takes (K.state out.old) (K.state out.new) (cat_text v reading.now.inode)) }
+    ensures some { (v : Volume) → Shows view.old geo.now v → TakesSome (K.state out.old) (K.state out.new) (cat_text v reading.now.inode) }
     ensures reads { OnlyReads view.old view.new }
-    ensures fault { IsErrOf result DebugFault.DeviceFault → Rose (view_state view.old).faults (view_state view.new).faults }
-    ensures output { IsErrOf result DebugFault.OutputFault → FailsLast (K.state out.old) (K.state out.new) }
+    ensures fails { IfErr result (AnswerFails view.old view.new geo.now [] (K.state out.old) (K.state out.new) (out.new ≡ out.old)
+        (λ v. TakesSome (K.state out.old) (K.state out.new) (cat_text v reading.now.inode)) ⊥) }
     ensures quiet { (IsErrOf result DebugFault.OutputFault → ⊥) → (K.state out.new).faults ≡ (K.state out.old).faults }
 {
     let size = reading.dinode.size;

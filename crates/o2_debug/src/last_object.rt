@@ -1,19 +1,16 @@
 // The answer to a query, for the inode at the end of its path.
-ghost use Rattle.std.specs.Prelude.{◌≡◌, ◌<◌, ℕ, true, Some, OnOk, IsErrOf};
+ghost use Rattle.std.specs.Prelude.{◌≡◌, true, OnOk, IsErrOf};
 ghost use Rattle.std.specs.Result.{IfErr};
-ghost use Rattle.o2_disk.specs.Image.{Image};
-ghost use Rattle.o2_disk.specs.Device.{Rose};
-ghost use Rattle.o2_disk.specs.Output.{FailsLast};
-ghost use Rattle.o2_view.specs.Views.{view_state, view_blocks};
-ghost use Rattle.o2_model.specs.declared.check.Check.{Check};
-ghost use Rattle.o2_model.specs.Volume.{is_valid};
-ghost use Rattle.o2_model.specs.Inodes.{kind};
 ghost use Rattle.o2_ondisk.specs.Kinds.{kind_of_mode};
-ghost use Rattle.o2_extent.specs.Seen.{LiesIn, volume_seen};
-ghost use Rattle.o2_extent.specs.Reads.{OnlyReads};
+ghost use Rattle.o2_view.specs.Views.{Shows, OnlyReads};
+ghost use Rattle.o2_view.specs.Geos.{LiesIn, Reaches};
+ghost use Rattle.o2_view.specs.OwnChecks.{NoneFails};
+ghost use Rattle.o2_model.specs.Volume.{is_valid, Volume};
+ghost use Rattle.o2_model.specs.Inodes.{kind};
 ghost use Rattle.o2_dir.specs.InodeReadings.{Fits, TellsSound};
-ghost use Rattle.o2_debug.specs.Answers.{is_for as is_for_kind, IsOfOtherKind, FailsFor, Answers, AnswersSome, BeginsAnswer};
-ghost use Rattle.o2_debug.specs.Objects.{IsSound};
+ghost use Rattle.o2_debug.specs.Answers.{is_for as is_for_kind, IsOfOtherKind, Answers, AnswersSome, BeginsAnswer};
+ghost use Rattle.o2_debug.specs.Fails.{AnswerFails};
+ghost use Rattle.o2_debug.specs.Objects.{object_checks, query_checks};
 
 use crate::cat::put_file;
 use crate::object::judge;
@@ -48,20 +45,14 @@ fn put_answer<D: Disk, K: Sink, const N: usize>(
 ) -> Result<(), DebugFault>
     requires geo { LiesIn geo.now view.old }
     requires fits { Fits geo.now reading.now }
-    requires read { (I : Image) → (view_state view.old).content ≡ Some I → TellsSound (volume_seen geo.now I) reading.now.inode reading.now }
-    requires sound { (I : Image) → (view_state view.old).content ≡ Some I → IsSound (volume_seen geo.now I) reading.now.inode }
-    requires asked { (I : Image) → (view_state view.old).content ≡ Some I → is_for_kind query.now (kind (volume_seen geo.now I) reading.now.inode) ≡ true }
-    ensures all { OnOk result ((I : Image) → (view_state view.old).content ≡ Some I → Answers query.now (volume_seen geo.now I) reading.now.inode (K.state out.old) (K.state out.new)) }
-    ensures some { (I : Image) → (view_state view.old).content ≡ Some I → BeginsAnswer query.now (volume_seen geo.now I) reading.now.inode (K.state out.old) (K.state out.new) }
-    ensures cut { IsErrOf result DebugFault.OutputFault → (I : Image) → (view_state view.old).content ≡ Some I → AnswersSome query.now (volume_seen geo.now I) reading.now.inode (K.state out.old) (K.state out.new) }
-    ensures bad { IfErr result (λ fault. (check : Check) (b : ℕ) → fault ≡ DebugFault.Bad check b → (I : Image) → (view_state view.old).content ≡ Some I
-        → FailsFor query.now (volume_seen geo.now I) reading.now.inode check b) }
-    ensures untouched { IfErr result (λ fault. (check : Check) (b : ℕ) → fault ≡ DebugFault.Bad check b → (I : Image) → (view_state view.old).content ≡ Some I → out.new ≡ out.old) }
-    ensures kind { IsErrOf result DebugFault.WrongKind → ⊥ }
-    ensures absent { IsErrOf result DebugFault.Absent → ⊥ }
+    requires read { (v : Volume) → Shows view.old geo.now v → TellsSound v reading.now.inode reading.now }
+    requires sound { (v : Volume) → Shows view.old geo.now v → NoneFails (object_checks reading.now.inode) v }
+    requires asked { (v : Volume) → Shows view.old geo.now v → is_for_kind query.now (kind v reading.now.inode) ≡ true }
+    ensures told { OnOk result ((v : Volume) → Shows view.old geo.now v → Answers query.now v reading.now.inode (K.state out.old) (K.state out.new)) }
+    ensures some { (v : Volume) → Shows view.old geo.now v → BeginsAnswer query.now v reading.now.inode (K.state out.old) (K.state out.new) }
     ensures reads { OnlyReads view.old view.new }
-    ensures fault { IsErrOf result DebugFault.DeviceFault → Rose (view_state view.old).faults (view_state view.new).faults }
-    ensures output { IsErrOf result DebugFault.OutputFault → FailsLast (K.state out.old) (K.state out.new) }
+    ensures fails { IfErr result (AnswerFails view.old view.new geo.now (query_checks query.now reading.now.inode) (K.state out.old) (K.state out.new) (out.new ≡ out.old)
+        (λ v. AnswersSome query.now v reading.now.inode (K.state out.old) (K.state out.new)) ⊥) }
     ensures quiet { (IsErrOf result DebugFault.OutputFault → ⊥) → (K.state out.new).faults ≡ (K.state out.old).faults }
 {
     match query {
@@ -81,22 +72,13 @@ pub fn answer<D: Disk, K: Sink, const N: usize>(
     inode: u64,
     out: &mut K,
 ) -> Result<(), DebugFault>
-    requires geo { LiesIn geo.now view.old }
-    requires inode { inode < view_blocks view.old }
-    requires sysdir { geo.now.sysdir < view_blocks view.old }
-    requires valid { (I : Image) → (view_state view.old).content ≡ Some I → is_valid (volume_seen geo.now I) inode ≡ true }
-    ensures all { OnOk result ((I : Image) → (view_state view.old).content ≡ Some I → Answers query.now (volume_seen geo.now I) inode (K.state out.old) (K.state out.new)) }
-    ensures some { (I : Image) → (view_state view.old).content ≡ Some I → BeginsAnswer query.now (volume_seen geo.now I) inode (K.state out.old) (K.state out.new) }
-    ensures cut { IsErrOf result DebugFault.OutputFault → (I : Image) → (view_state view.old).content ≡ Some I → AnswersSome query.now (volume_seen geo.now I) inode (K.state out.old) (K.state out.new) }
-    ensures bad { IfErr result (λ fault. (check : Check) (b : ℕ) → fault ≡ DebugFault.Bad check b → (I : Image) → (view_state view.old).content ≡ Some I
-        → FailsFor query.now (volume_seen geo.now I) inode check b) }
-    ensures untouched { IfErr result (λ fault. (check : Check) (b : ℕ) → fault ≡ DebugFault.Bad check b → (I : Image) → (view_state view.old).content ≡ Some I → out.new ≡ out.old) }
-    ensures kind { IsErrOf result DebugFault.WrongKind → (I : Image) → (view_state view.old).content ≡ Some I → IsOfOtherKind query.now (volume_seen geo.now I) inode }
-    ensures unasked { IsErrOf result DebugFault.WrongKind → out.new ≡ out.old }
-    ensures absent { IsErrOf result DebugFault.Absent → ⊥ }
+    requires inode { Reaches geo.now view.old inode }
+    requires valid { (v : Volume) → Shows view.old geo.now v → is_valid v inode ≡ true }
+    ensures told { OnOk result ((v : Volume) → Shows view.old geo.now v → Answers query.now v inode (K.state out.old) (K.state out.new)) }
+    ensures some { (v : Volume) → Shows view.old geo.now v → BeginsAnswer query.now v inode (K.state out.old) (K.state out.new) }
     ensures reads { OnlyReads view.old view.new }
-    ensures fault { IsErrOf result DebugFault.DeviceFault → Rose (view_state view.old).faults (view_state view.new).faults }
-    ensures output { IsErrOf result DebugFault.OutputFault → FailsLast (K.state out.old) (K.state out.new) }
+    ensures fails { IfErr result (AnswerFails view.old view.new geo.now (query_checks query.now inode) (K.state out.old) (K.state out.new) (out.new ≡ out.old)
+        (λ v. AnswersSome query.now v inode (K.state out.old) (K.state out.new)) ((v : Volume) → Shows view.old geo.now v → IsOfOtherKind query.now v inode)) }
     ensures quiet { (IsErrOf result DebugFault.OutputFault → ⊥) → (K.state out.new).faults ≡ (K.state out.old).faults }
 {
     let reading = judge(alloc, view, geo, inode)?;

@@ -1,15 +1,13 @@
 // The inode at the end of a path, and what is wrong with it.
-ghost use Rattle.std.specs.Prelude.{◌≡◌, ◌<◌, ℕ, is_some, Some, IfOk, OnOk, IsErrOf};
+ghost use Rattle.std.specs.Prelude.{◌≡◌, is_some, IfOk};
 ghost use Rattle.std.specs.Result.{IfErr};
-ghost use Rattle.o2_disk.specs.Image.{Image};
-ghost use Rattle.o2_disk.specs.Device.{Rose};
 ghost use Rattle.o2_ondisk.specs.Kinds.{kind_of_mode};
-ghost use Rattle.o2_view.specs.Views.{view_state, view_blocks};
-ghost use Rattle.o2_model.specs.declared.check.Check.{Check};
-ghost use Rattle.o2_extent.specs.Seen.{LiesIn, volume_seen};
-ghost use Rattle.o2_extent.specs.Reads.{OnlyReads};
+ghost use Rattle.o2_view.specs.Views.{Shows, OnlyReads};
+ghost use Rattle.o2_view.specs.Geos.{Reaches};
+ghost use Rattle.o2_view.specs.OwnChecks.{ReadFails, NoneFails};
+ghost use Rattle.o2_model.specs.Volume.{Volume};
 ghost use Rattle.o2_dir.specs.InodeReadings.{Fits, TellsSound};
-ghost use Rattle.o2_debug.specs.Objects.{IsSound, FailsAsObject};
+ghost use Rattle.o2_debug.specs.Objects.{object_checks};
 
 use o2_dir::{InodeReading, sound_inode_in};
 use o2_disk::Disk;
@@ -32,16 +30,11 @@ pub fn judge<D: Disk, const N: usize>(
     geo: &Geo,
     inode: u64,
 ) -> Result<InodeReading, ReadFault>
-    requires geo { LiesIn geo.now view.old }
-    requires inode { inode < view_blocks view.old }
-    requires sysdir { geo.now.sysdir < view_blocks view.old }
+    requires inode { Reaches geo.now view.old inode }
     ensures fits { IfOk result (λ reading. Fits geo.now reading) }
-    ensures read { IfOk result (λ reading. (I : Image) → (view_state view.old).content ≡ Some I → TellsSound (volume_seen geo.now I) inode reading) }
-    ensures sound { OnOk result ((I : Image) → (view_state view.old).content ≡ Some I → IsSound (volume_seen geo.now I) inode) }
-    ensures bad { IfErr result (λ fault. (check : Check) (b : ℕ) → fault ≡ ReadFault.Bad check b → (I : Image) → (view_state view.old).content ≡ Some I
-        → FailsAsObject (volume_seen geo.now I) inode check b) }
+    ensures told { IfOk result (λ reading. (v : Volume) → Shows view.old geo.now v → NoneFails (object_checks inode) v × TellsSound v inode reading) }
     ensures reads { OnlyReads view.old view.new }
-    ensures fault { IsErrOf result ReadFault.DeviceFault → Rose (view_state view.old).faults (view_state view.new).faults }
+    ensures fails { IfErr result (ReadFails view.old view.new geo.now (object_checks inode)) }
 {
     let block = look(view, geo, inode)?;
     if !has_kind(&read_dinode(block.as_slice())) {

@@ -1,16 +1,13 @@
 // The text of `ls` and of `stat`, line by line.
-ghost use Rattle.std.specs.Prelude.{◌≡◌, ◌++◌, ℕ, true, map, Some, IfOk, IsErrOf};
+ghost use Rattle.std.specs.Prelude.{◌≡◌, ◌++◌, true, map, IfOk};
 ghost use Rattle.std.specs.List.{concat};
 ghost use Rattle.std.specs.Result.{IfErr};
-ghost use Rattle.o2_disk.specs.Image.{Image};
-ghost use Rattle.o2_disk.specs.Device.{Rose};
-ghost use Rattle.o2_view.specs.Views.{view_state};
-ghost use Rattle.o2_model.specs.declared.check.Check.{Check};
+ghost use Rattle.o2_view.specs.Views.{Shows, OnlyReads};
+ghost use Rattle.o2_view.specs.Geos.{LiesIn};
+ghost use Rattle.o2_view.specs.OwnChecks.{NoneFails};
 ghost use Rattle.o2_model.specs.Volume.{Volume};
 ghost use Rattle.o2_model.specs.Inodes.{is_directory};
-ghost use Rattle.o2_extent.specs.Seen.{LiesIn, volume_seen};
-ghost use Rattle.o2_extent.specs.Reads.{OnlyReads};
-ghost use Rattle.o2_dir.specs.Fails.{FailsNone, FailsFirst};
+ghost use Rattle.o2_dir.specs.Fails.{DirFails, directory_checks};
 ghost use Rattle.o2_dir.specs.InodeReadings.{Fits, TellsSound};
 ghost use Rattle.o2_debug.specs.Lines.{dinode_lines as lines_of_dinode, extent_line};
 ghost use Rattle.o2_debug.specs.Texts.{ls_text, stat_text};
@@ -33,15 +30,12 @@ pub fn ls_lines<D: Disk, const N: usize>(
 ) -> Result<Lines, DirFault>
     requires geo { LiesIn geo.now view.old }
     requires fits { Fits geo.now reading.now }
-    requires sound { (I : Image) → (view_state view.old).content ≡ Some I → TellsSound (volume_seen geo.now I) reading.now.inode reading.now }
-    requires directory { (I : Image) → (view_state view.old).content ≡ Some I → is_directory (volume_seen geo.now I) reading.now.inode ≡ true }
-    ensures text { IfOk result (λ lines. (I : Image) → (view_state view.old).content ≡ Some I → concat lines ≡ ls_text (volume_seen geo.now I) reading.now.inode) }
-    ensures sound { IfOk result (λ _. (I : Image) → (view_state view.old).content ≡ Some I → FailsNone (volume_seen geo.now I) reading.now.inode) }
-    ensures bad { IfErr result (λ fault. (check : Check) (b : ℕ) → fault ≡ DirFault.Bad check b → (I : Image) → (view_state view.old).content ≡ Some I
-        → FailsFirst (volume_seen geo.now I) reading.now.inode check b) }
-    ensures present { IsErrOf result DirFault.Absent → ⊥ }
+    requires sound { (v : Volume) → Shows view.old geo.now v → TellsSound v reading.now.inode reading.now }
+    requires directory { (v : Volume) → Shows view.old geo.now v → is_directory v reading.now.inode ≡ true }
+    ensures told { IfOk result (λ lines. (v : Volume) → Shows view.old geo.now v
+        → NoneFails (directory_checks reading.now.inode) v × (concat lines ≡ ls_text v reading.now.inode)) }
     ensures reads { OnlyReads view.old view.new }
-    ensures fault { IsErrOf result DirFault.DeviceFault → Rose (view_state view.old).faults (view_state view.new).faults }
+    ensures fails { IfErr result (DirFails view.old view.new geo.now (directory_checks reading.now.inode) ⊥) }
 {
     let found = entries_of(alloc, view, geo, reading)?;
     match entry_lines(alloc, found.as_slice()) {

@@ -1,14 +1,14 @@
 // The answer to a query, on a volume of which only its numbers are known.
-ghost use Rattle.std.specs.Prelude.{◌≡◌, ◌⊎◌, ◌≤◌, ℕ, Some, OnOk, IfErr, IsErrOf};
-ghost use Rattle.o2_disk.specs.Device.{ReadsOnly, Rose, SameDevice};
-ghost use Rattle.o2_disk.specs.Output.{FailsLast};
-ghost use Rattle.o2_model.specs.Image.{Image};
-ghost use Rattle.o2_model.specs.declared.check.Check.{Check};
-ghost use Rattle.o2_extent.specs.Seen.{volume_seen};
+ghost use Rattle.std.specs.Prelude.{◌≡◌, ◌⊎◌, ◌≤◌, Some, OnOk, IsErrOf};
+ghost use Rattle.std.specs.Result.{IfErr};
+ghost use Rattle.o2_disk.specs.Device.{ReadsOnly, SameDevice};
+ghost use Rattle.o2_disk.specs.Image.{Image};
 ghost use Rattle.o2_dir.specs.PathTexts.{IsPath};
-ghost use Rattle.o2_check.specs.Skeleton.{HasSkeleton, FailsFirst};
+ghost use Rattle.o2_check.specs.Skeleton.{HasSkeleton};
 ghost use Rattle.o2_debug.specs.Answers.{path_of};
-ghost use Rattle.o2_debug.specs.Commands.{AnswersAt, AnswersSomeAt, IsAbsent, IsOfWrongKind, FailsOn};
+ghost use Rattle.o2_debug.specs.Commands.{AnswersAt, AnswersSomeAt};
+ghost use Rattle.o2_debug.specs.Devices.{volume_on, IsOn};
+ghost use Rattle.o2_debug.specs.Fails.{QueryFails};
 
 use crate::{DebugFault, Query, command};
 use o2_disk::{Disk, Sink};
@@ -29,28 +29,21 @@ pub fn ask<D: Disk, K: Sink, const N: usize>(
     requires most { geo.now.block_bits ≤ 12 }
     requires path { IsPath (path_of query.now) }
     requires kept { 1 ≤ N }
-    ensures skeleton { OnOk result ((I : Image) → (D.state device.old).content ≡ Some I → HasSkeleton (volume_seen geo.now I)) }
-    ensures all { OnOk result ((I : Image) → (D.state device.old).content ≡ Some I → AnswersAt query.now (volume_seen geo.now I) (K.state out.old) (K.state out.new)) }
+    ensures told { OnOk result ((I : Image) → (D.state device.old).content ≡ Some I
+        → HasSkeleton (volume_on geo.now I) × AnswersAt query.now (volume_on geo.now I) (K.state out.old) (K.state out.new)) }
     ensures some { (I : Image) → (D.state device.old).content ≡ Some I
-        → (K.state out.new ≡ K.state out.old) ⊎ (HasSkeleton (volume_seen geo.now I) × AnswersSomeAt query.now (volume_seen geo.now I) (K.state out.old) (K.state out.new)) }
-    ensures cut { IsErrOf result DebugFault.OutputFault → (I : Image) → (D.state device.old).content ≡ Some I
-        → HasSkeleton (volume_seen geo.now I) × AnswersSomeAt query.now (volume_seen geo.now I) (K.state out.old) (K.state out.new) }
-    ensures absent { IsErrOf result DebugFault.Absent → (I : Image) → (D.state device.old).content ≡ Some I → HasSkeleton (volume_seen geo.now I) × IsAbsent query.now (volume_seen geo.now I) }
-    ensures kind { IsErrOf result DebugFault.WrongKind → (I : Image) → (D.state device.old).content ≡ Some I → HasSkeleton (volume_seen geo.now I) × IsOfWrongKind query.now (volume_seen geo.now I) }
-    ensures bad { IfErr result (λ fault. (check : Check) (b : ℕ) → fault ≡ DebugFault.Bad check b → (I : Image) → (D.state device.old).content ≡ Some I
-        → FailsFirst (volume_seen geo.now I) check b ⊎ (HasSkeleton (volume_seen geo.now I) × FailsOn query.now (volume_seen geo.now I) check b)) }
-    ensures untouched { IfErr result (λ fault. (check : Check) (b : ℕ) → fault ≡ DebugFault.Bad check b → (I : Image) → (D.state device.old).content ≡ Some I → out.new ≡ out.old) }
-    ensures unasked { IsErrOf result DebugFault.WrongKind → out.new ≡ out.old }
-    ensures not_found { IsErrOf result DebugFault.Absent → out.new ≡ out.old }
+        → (K.state out.new ≡ K.state out.old) ⊎ (HasSkeleton (volume_on geo.now I) × AnswersSomeAt query.now (volume_on geo.now I) (K.state out.old) (K.state out.new)) }
     ensures reads { ReadsOnly (D.state device.old) (D.state device.new) }
     ensures device { SameDevice (D.state device.old) (D.state device.new) }
-    ensures fault { IsErrOf result DebugFault.DeviceFault → Rose (D.state device.old).faults (D.state device.new).faults }
-    ensures output { IsErrOf result DebugFault.OutputFault → FailsLast (K.state out.old) (K.state out.new) }
+    ensures fails { IfErr result (QueryFails (IsOn (D.state device.old) geo.now) (D.state device.old) (D.state device.new) query.now (K.state out.old) (K.state out.new)
+        (out.new ≡ out.old)) }
     ensures quiet { (IsErrOf result DebugFault.OutputFault → ⊥) → (K.state out.new).faults ≡ (K.state out.old).faults }
 {
     let blocks = device.sectors() >> (geo.block_bits - 9);
     let Ok(mut view) = View::<D, N>::new(alloc, device, geo.block_bits, blocks) else {
         return Err(DebugFault::NoMemory);
     };
-    command(alloc, &mut view, geo, query, out)
+    let answer = command(alloc, &mut view, geo, query, out);
+    let _device = view.into_disk();
+    answer
 }

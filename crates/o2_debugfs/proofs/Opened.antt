@@ -10,7 +10,7 @@ use Rattle.o2_model.specs.Superblock.{superblock, superblock_bits, cluster_count
 use Rattle.o2_model.specs.Geometry.{geometry_at, geometry_in_block}
 use Rattle.o2_model.specs.Features.{unsupported_in, unsupported_feature}
 use Rattle.o2_model.specs.Volume.{Volume, opened, volume_of}
-use Rattle.o2_extent.specs.Seen.{volume_seen}
+use Rattle.o2_debug.specs.Devices.{volume_on}
 use Rattle.o2_view.specs.SuperSector.{IsSuperSector, TellsSuper}
 use Rattle.o2_view.specs.declared.superblock.SuperSector.{SuperSector}
 
@@ -25,7 +25,7 @@ module _ (I : Image) (s : SuperSector) (found : (superblock_bits I ≡ Some s.bi
   seen_by_bits geo b = record { geo = geo; at = block_at (2 ^ b) I; on_device = 512 * length I / 2 ^ b }
 
   -- the volume of the numbers that it tells
-  pub opened_read : (geo : Geo) → geo ≡ geometry_in_block s.bytes → ((J : Image) → IsSuperSector J s → geo ≡ geometry_at J s.bits) → TellsSuper s → opened I ≡ Some (volume_seen geo I)
+  pub opened_read : (geo : Geo) → geo ≡ geometry_in_block s.bytes → ((J : Image) → IsSuperSector J s → geo ≡ geometry_at J s.bits) → TellsSuper s → opened I ≡ Some (volume_on geo I)
   opened_read geo told volume tells =
       let size : geo.block_bits ≡ s.bits = ap (λ (g : Geo). g.block_bits) told ∙ tells.size in
       ap (λ (o : Option ℕ). option_map (volume_of I) o) found.0

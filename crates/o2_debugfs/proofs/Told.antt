@@ -1,49 +1,64 @@
 -- Which cause answers a query.
 use Rattle.std.proofs.Common.{◌≡◌, ◌⊎◌, inl, inr, ⊎_elim, ℕ, Some, None, refl}
-use Rattle.o2_disk.specs.Output.{SinkState}
+use Rattle.o2_disk.specs.Device.{DiskState, Rose}
+use Rattle.o2_disk.specs.Output.{SinkState, FailsLast}
 use Rattle.o2_model.specs.Image.{Image}
 use Rattle.o2_model.specs.Features.{unsupported_feature}
 use Rattle.o2_model.specs.Volume.{Volume, opened}
-use Rattle.o2_model.specs.declared.check.Check.{Check}
-use Rattle.o2_check.specs.Skeleton.{HasSkeleton, FailsFirst}
-use Rattle.o2_cause.specs.Causes.{IsDone}
-use Rattle.o2_debug.specs.Commands.{AnswersAt, AnswersSomeAt, IsAbsent, IsOfWrongKind, FailsOn}
+use Rattle.o2_check.specs.Skeleton.{HasSkeleton}
+use Rattle.o2_cause.specs.Causes.{IsDone, IsRefusal}
+use Rattle.o2_cause.specs.declared.cause.Cause.TheVariants.{DeviceFault}
+use Rattle.o2_debug.specs.Commands.{AnswersAt, AnswersSomeAt}
+use Rattle.o2_debug.specs.Fails.{QueryFails}
 use Rattle.o2_debug.specs.declared.fault.DebugFault.{DebugFault}
 use Rattle.o2_debug.specs.declared.fault.DebugFault.TheVariants as debug
 use Rattle.o2_debug.specs.declared.query.Query.{Query}
 use Rattle.o2_debugfs.specs.Replies.{ComesFor, HasReport, TakesReport, TakesSomeOfReport, BeginsReport, cause_of_query}
 
-module _ (query : Query) (I : Image) (v : Volume) (is : opened I ≡ Some v) (supported : unsupported_feature I ≡ None) where
-  pub takes_report : (a b : SinkState) → HasSkeleton v → AnswersAt query v a b → TakesReport query I a b
-  takes_report a b skeleton answers = (answers.0, (record { volume = v; is = is; supported = supported; holds = (skeleton, answers.1.0) }, answers.1.1))
+module _ (query : Query) (I : Image) (v : Volume) (is : opened I ≡ Some v) (supported : unsupported_feature I ≡ None) (a b : SinkState) where
+  pub takes_report : HasSkeleton v × AnswersAt query v a b → TakesReport query I a b
+  takes_report answers = (answers.1.0, (record { volume = v; is = is; supported = supported; holds = (answers.0, answers.1.1.0) }, answers.1.1.1))
 
-  pub some_of_report : (a b : SinkState) → HasSkeleton v → AnswersSomeAt query v a b → TakesSomeOfReport query I a b
-  some_of_report a b skeleton answers = (answers.0, (record { volume = v; is = is; supported = supported; holds = (skeleton, answers.1.0) }, answers.1.1))
+  pub some_of_report : HasSkeleton v × AnswersSomeAt query v a b → TakesSomeOfReport query I a b
+  some_of_report answers = (answers.1.0, (record { volume = v; is = is; supported = supported; holds = (answers.0, answers.1.1.0) }, answers.1.1.1))
 
-  has_report : (a b : SinkState) → HasSkeleton v × AnswersSomeAt query v a b → HasReport query I
-  has_report a b some = let part = some_of_report a b some.0 some.1 in (part.0, part.1.0)
+  has_report : HasSkeleton v × AnswersSomeAt query v a b → HasReport query I
+  has_report some = let part = some_of_report some in (part.0, part.1.0)
 
-  pub begins_report : (a b : SinkState) → (b ≡ a) ⊎ (HasSkeleton v × AnswersSomeAt query v a b) → BeginsReport query I a b
-  begins_report a b put = ⊎_elim (λ nothing. inl nothing) (λ some. inr (some_of_report a b some.0 some.1)) put
+  pub begins_report : (b ≡ a) ⊎ (HasSkeleton v × AnswersSomeAt query v a b) → BeginsReport query I a b
+  begins_report put = ⊎_elim (λ nothing. inl nothing) (λ some. inr (some_of_report some)) put
 
-  pub comes_fault : (fault : DebugFault) (a b : SinkState)
-      → (fault ≡ debug.OutputFault → HasSkeleton v × AnswersSomeAt query v a b)
-      → (fault ≡ debug.Absent → HasSkeleton v × IsAbsent query v)
-      → (fault ≡ debug.WrongKind → HasSkeleton v × IsOfWrongKind query v)
-      → ((check : Check) (block : ℕ) → fault ≡ debug.Bad check block → FailsFirst v check block ⊎ (HasSkeleton v × FailsOn query v check block))
-      → ComesFor query I (cause_of_query query fault)
-  comes_fault debug.NoMemory a b cut absent kind bad = tt
-  comes_fault debug.DeviceFault a b cut absent kind bad = tt
-  comes_fault debug.OutputFault a b cut absent kind bad = has_report a b (cut refl)
-  comes_fault debug.Absent a b cut absent kind bad = (refl, record { volume = v; is = is; supported = supported; holds = absent refl })
-  comes_fault debug.WrongKind a b cut absent kind bad = (refl, record { volume = v; is = is; supported = supported; holds = kind refl })
-  comes_fault (debug.Bad check block) a b cut absent kind bad = record { volume = v; is = is; supported = supported; holds = bad check block refl }
+  pub comes_fault : (Seen : Volume → Type 0) (old new : DiskState) (kept : Type 0) → Seen v → (fault : DebugFault) → QueryFails Seen old new query a b kept fault → ComesFor query I (cause_of_query query fault)
+  comes_fault Seen old new kept seen debug.NoMemory fails = tt
+  comes_fault Seen old new kept seen debug.DeviceFault fails = tt
+  comes_fault Seen old new kept seen debug.OutputFault fails = has_report (fails.1 v seen)
+  comes_fault Seen old new kept seen debug.Absent fails = (refl, record { volume = v; is = is; supported = supported; holds = fails.1 v seen })
+  comes_fault Seen old new kept seen debug.WrongKind fails = (refl, record { volume = v; is = is; supported = supported; holds = fails.1 v seen })
+  comes_fault Seen old new kept seen (debug.Bad check block) fails = record { volume = v; is = is; supported = supported; holds = fails.1 v seen }
 
--- only a fault of the output leaves a query done
-pub fault_of_output : (query : Query) (fault : DebugFault) → IsDone (cause_of_query query fault) → fault ≡ debug.OutputFault
-fault_of_output query debug.OutputFault done = refl
-fault_of_output query debug.NoMemory done = absurd (let none : ⊥ = cc done in none)
-fault_of_output query debug.DeviceFault done = absurd (let none : ⊥ = cc done in none)
-fault_of_output query debug.Absent done = absurd (let none : ⊥ = cc done in none)
-fault_of_output query debug.WrongKind done = absurd (let none : ⊥ = cc done in none)
-fault_of_output query (debug.Bad check block) done = absurd (let none : ⊥ = cc done in none)
+module _ (Seen : Volume → Type 0) (old new : DiskState) (query : Query) (a b : SinkState) (kept : Type 0) where
+  -- only a fault of the output leaves a query done
+  pub done_by_output : (fault : DebugFault) → IsDone (cause_of_query query fault) → QueryFails Seen old new query a b kept fault → FailsLast a b × ((v : Volume) → Seen v → HasSkeleton v × AnswersSomeAt query v a b)
+  done_by_output debug.OutputFault done fails = fails
+  done_by_output debug.NoMemory done fails = absurd (let none : ⊥ = cc done in none)
+  done_by_output debug.DeviceFault done fails = absurd (let none : ⊥ = cc done in none)
+  done_by_output debug.Absent done fails = absurd (let none : ⊥ = cc done in none)
+  done_by_output debug.WrongKind done fails = absurd (let none : ⊥ = cc done in none)
+  done_by_output (debug.Bad check block) done fails = absurd (let none : ⊥ = cc done in none)
+
+  -- a query that is refused puts nothing
+  pub refused_unasked : (fault : DebugFault) → IsRefusal (cause_of_query query fault) → QueryFails Seen old new query a b kept fault → kept
+  refused_unasked debug.OutputFault refused fails = absurd (let none : ⊥ = cc refused in none)
+  refused_unasked debug.NoMemory refused fails = absurd (let none : ⊥ = cc refused in none)
+  refused_unasked debug.DeviceFault refused fails = absurd (let none : ⊥ = cc refused in none)
+  refused_unasked debug.Absent refused fails = fails.0
+  refused_unasked debug.WrongKind refused fails = fails.0
+  refused_unasked (debug.Bad check block) refused fails = fails.0
+
+  pub rose_by_device : (fault : DebugFault) → cause_of_query query fault ≡ DeviceFault → QueryFails Seen old new query a b kept fault → Rose old.faults new.faults
+  rose_by_device debug.OutputFault is fails = absurd (let none : ⊥ = cc is in none)
+  rose_by_device debug.NoMemory is fails = absurd (let none : ⊥ = cc is in none)
+  rose_by_device debug.DeviceFault is fails = fails
+  rose_by_device debug.Absent is fails = absurd (let none : ⊥ = cc is in none)
+  rose_by_device debug.WrongKind is fails = absurd (let none : ⊥ = cc is in none)
+  rose_by_device (debug.Bad check block) is fails = absurd (let none : ⊥ = cc is in none)

@@ -6,7 +6,8 @@ use Rattle.o2_model.specs.Image.{Image}
 use Rattle.o2_model.specs.Superblock.{superblock_bits}
 use Rattle.o2_model.specs.Features.{unsupported_feature}
 use Rattle.o2_model.specs.Volume.{Volume, opened}
-use Rattle.o2_check.specs.Skeleton.{HasSkeleton, FailsFirst}
+use Rattle.o2_view.specs.OwnChecks.{FailsFirst}
+use Rattle.o2_check.specs.Skeleton.{HasSkeleton, skeleton_checks}
 use Rattle.o2_cause.specs.Causes.{cause_line, IsRefusal}
 use Rattle.o2_cause.specs.Taken.{Takes, TakesSome}
 use Rattle.o2_cause.specs.declared.cause.Cause.{Cause}
@@ -61,7 +62,7 @@ ComesFor query I Fine = HasReport query I
 ComesFor query I OutputFault = HasReport query I
 ComesFor query I NotOcfs2 = superblock_bits I ≡ None
 ComesFor query I (Unsupported what block) = (unsupported_feature I ≡ Some what) × (block ≡ 2)
-ComesFor query I (Bad check b) = IsServed I (λ v. FailsFirst v check b ⊎ (HasSkeleton v × FailsOn query v check b))
+ComesFor query I (Bad check b) = IsServed I (λ v. FailsFirst skeleton_checks v check b ⊎ (HasSkeleton v × FailsOn query v check b))
 ComesFor query I (Absent path) = (path ≡ path_of query) × IsServed I (λ v. HasSkeleton v × IsAbsent query v)
 ComesFor query I (WrongKind path) = (path ≡ path_of query) × IsServed I (λ v. HasSkeleton v × IsOfWrongKind query v)
 ComesFor query I DeviceFault = Unit {0}

@@ -4,8 +4,8 @@ ghost use Rattle.o2_disk.specs.Device.{ReadsOnly, Rose, IsAttachedOnce, IsAttach
 ghost use Rattle.o2_model.specs.Image.{Image};
 ghost use Rattle.o2_model.specs.Features.{unsupported_feature};
 ghost use Rattle.o2_model.specs.Volume.{opened};
-ghost use Rattle.o2_extent.specs.Seen.{volume_seen};
 ghost use Rattle.o2_cause.specs.Causes.{IsDone};
+ghost use Rattle.o2_debug.specs.Devices.{volume_on};
 ghost use Rattle.o2_debugfs.specs.Replies.{RefusesVolume, IsOfOpening};
 
 use o2_cause::{Cause, attach};
@@ -19,7 +19,7 @@ const SUPER_BLOCK: u64 = 2;
 
 /// Attaches the device for reading, and finds its superblock, whose volume has to be one that is supported.
 pub fn open_for_reading<D: Disk>(alloc: Global, device: &mut D, name: &str) -> Result<Geo, Cause>
-    ensures found { IfOk result (λ geo. (I : Image) → (D.state device.old).content ≡ Some I → (opened I ≡ Some (volume_seen geo I)) × (unsupported_feature I ≡ None)) }
+    ensures found { IfOk result (λ geo. (I : Image) → (D.state device.old).content ≡ Some I → (opened I ≡ Some (volume_on geo I)) × (unsupported_feature I ≡ None)) }
     ensures least { IfOk result (λ geo. 9 ≤ geo.block_bits) }
     ensures most { IfOk result (λ geo. geo.block_bits ≤ 12) }
     ensures refused { IfErr result (λ cause. (I : Image) → (D.state device.old).content ≡ Some I → RefusesVolume I cause) }

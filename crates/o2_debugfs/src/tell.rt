@@ -33,7 +33,7 @@ pub fn tell<D: Disk, K: Sink>(
     ensures cut { IfErr result (λ cause. IsDone cause → (I : Image) → (D.state device.old).content ≡ Some I → TakesSomeOfReport query I (K.state out.old) (K.state out.new)) }
     ensures causes { IfErr result IsOfQuery }
     ensures not_fine { IfErr result (λ cause. cause ≢ Cause.Fine) }
-    ensures silent { (I : Image) → (D.state device.old).content ≡ Some I → IfErr result (λ cause. IsRefusal cause → out.new ≡ out.old) }
+    ensures silent { IfErr result (λ cause. IsRefusal cause → out.new ≡ out.old) }
     ensures some { (I : Image) → (D.state device.old).content ≡ Some I → BeginsReport query I (K.state out.old) (K.state out.new) }
     ensures reads { ReadsOnly (D.state device.old) (D.state device.new) }
     ensures not_writable { IsWritable (D.state device.new).attached → ⊥ }

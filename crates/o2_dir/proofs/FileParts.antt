@@ -1,5 +1,5 @@
 -- A part of a file's bytes.
-use Rattle.std.proofs.Common.{◌≡◌, inl, inr, ℕ, ◌+◌, ◌-◌, ◌≤◌, Bool, true, false, List, [], ◌++◌, map, take, drop, length, sym, ◌∙◌, ap, subst, arith, ◌||◌}
+use Rattle.std.proofs.Common.{◌≡◌, inl, inr, ℕ, ◌+◌, ◌-◌, ◌≤◌, Bool, true, false, List, [], ◌++◌, map, take, drop, length, refl, sym, ◌∙◌, ap, arith, ◌||◌}
 use Rattle.std.specs.Prelude.{min}
 use Rattle.std.specs.List.{range_with_len}
 use Rattle.std.proofs.lemmas.Bool.{cases_lt}
@@ -12,15 +12,13 @@ use Rattle.o2_ondisk.specs.declared.dinode.Dinode.{Dinode}
 use Rattle.o2_model.specs.Volume.{Volume, dinode}
 use Rattle.o2_model.specs.Inodes.{is_file, is_link, is_file_kind, is_link_kind, is_inline, is_fast_link, has_fast_text, leaf_records}
 use Rattle.o2_model.specs.Contents.{byte_of, bytes_of}
-use Rattle.o2_model.specs.Words.{IsLeast}
-use Rattle.o2_model.specs.declared.check.Check.{Check}
 use Rattle.o2_model.specs.declared.check.Check.TheVariants.{InodeSize}
 use Rattle.o2_model.specs.Checks.Extent.{extent_faults}
-use Rattle.o2_model.specs.Checks.InodeSize.{has_sound_size, inode_size_faults}
+use Rattle.o2_model.specs.Checks.InodeSize.{has_sound_size}
 use Rattle.o2_extent.proofs.FileBytes.{range_split}
 use Rattle.o2_model.specs.declared.leaf.Leaf.{Leaf}
-use Rattle.o2_dir.specs.Fails.{IsRead}
-use Rattle.o2_dir.specs.FileData.{DataFailsFirst}
+use Rattle.o2_view.specs.OwnChecks.{FailsFirst}
+use Rattle.o2_dir.specs.Fails.{IsRead, data_checks}
 use Rattle.o2_dir.proofs.Whole.{size_bad}
 
 -- ---- a part of what a range gives
@@ -102,7 +100,5 @@ pub as_read : (v : Volume) (b : ℕ) (bytes block : List ℕ) (leaves records : 
 as_read v b bytes block leaves records same are read = record { holds = same ∙ read.holds; sound = read.sound; are = are ∙ read.are }
 
 -- ---- what is wrong
-pub fails_size : (v : Volume) (b at : ℕ) (check : Check) → check ≡ InodeSize → at ≡ b → extent_faults v b ≡ [] → has_sound_size v b ≡ false → DataFailsFirst v b check at
-unfolding DataFailsFirst
-fails_size v b at check named placed sound bad =
-    inr (sound, inl (named, subst (λ (n : ℕ). IsLeast n (inode_size_faults v b)) (sym placed) (size_bad v b bad)))
+pub fails_size : (v : Volume) (b : ℕ) → extent_faults v b ≡ [] → has_sound_size v b ≡ false → FailsFirst (data_checks b) v InodeSize b
+fails_size v b sound bad = inr (sound, inl (refl, size_bad v b bad))

@@ -1,8 +1,8 @@
 -- A directory whose entries stand in its dinode.
-use Rattle.std.proofs.Common.{◌≡◌, ℕ, ◌+◌, ◌-◌, ◌^◌, ◌≤◌, Bool, true, cond, ◌&&◌, List, [], ◌∷◌, flat_map, length, take, drop, refl, sym, ◌∙◌, ap, subst, arith, Option, None, Result}
+use Rattle.std.proofs.Common.{◌≡◌, inl, inr, ℕ, ◌+◌, ◌-◌, ◌^◌, ◌≤◌, Bool, true, cond, ◌&&◌, List, [], ◌∷◌, flat_map, length, take, drop, refl, sym, ◌∙◌, ap, subst, arith, Option, None, Result, Ok, Err}
 use Rattle.std.specs.Prelude.{IfOk}
 use Rattle.std.specs.Result.{IfErr}
-use Rattle.std.proofs.lemmas.Result.{IfOk-weaker, IfErr-weaker}
+use Rattle.std.proofs.lemmas.Result.{IfErr-weaker}
 use Rattle.std.specs.Prelude.{nat_le}
 use Rattle.std.proofs.lemmas.Bool.Decides.{nat_tests}
 use Rattle.o2_ondisk.specs.Number.{number_at}
@@ -18,7 +18,8 @@ use Rattle.o2_dir.specs.declared.reading.Reading.{Reading}
 use Rattle.o2_model.specs.declared.entry.Entry.{Entry}
 use Rattle.o2_dir.specs.declared.fault.DirFault.{DirFault}
 use Rattle.o2_dir.specs.declared.fault.DirFault.TheVariants as Faults
-use Rattle.o2_dir.specs.Fails.{IsInline, FailsNone, FailsFirst}
+use Rattle.o2_view.specs.OwnChecks.{NoneFails, IsOwn, FailsFirst}
+use Rattle.o2_dir.specs.Fails.{IsInline, directory_checks}
 use Rattle.o2_dir.proofs.Whole.{entries_kept, faults_kept, fails_blocks, size_sound}
 
 -- ---- sizes and bytes that are told are those of the dinode
@@ -75,35 +76,31 @@ unfolding blocks_in_dinode
 is_read reading d size bytes part is kept = subst (λ (bs : List ℕ). Keeps reading (record { place = 0; block = d; found = entries_in bs } ∷ [])) is kept
 
 -- ---- the answers
-pub entries_told : (r : Result (List Entry) DirFault) (reading : Reading) (d size : ℕ) (bytes : List ℕ) → 200 + size ≤ length bytes → Keeps reading (blocks_in_dinode d size bytes)
-    → IfOk r (λ es. (bs : List DirBlock) → Keeps reading bs → es ≡ flat_map entries_of_block bs)
-    → IfOk r (λ es. (v : Volume) → length bytes ≡ 2 ^ v.geo.block_bits → IsInline v d size bytes → es ≡ directory_entries v d)
-entries_told r reading d size bytes room kept = IfOk-weaker r
-    (λ es. (bs : List DirBlock) → Keeps reading bs → es ≡ flat_map entries_of_block bs)
-    (λ es. (v : Volume) → length bytes ≡ 2 ^ v.geo.block_bits → IsInline v d size bytes → es ≡ directory_entries v d)
-    (λ es sound v long h. sound (blocks_in_dinode d size bytes) kept ∙ entries_kept v d (blocks_in_dinode d size bytes) (blocks_are v d size bytes long h room))
-
-pub sound_told : (r : Result (List Entry) DirFault) (reading : Reading) (d size : ℕ) (bytes : List ℕ) → 200 + size ≤ length bytes → Keeps reading (blocks_in_dinode d size bytes)
+pub told : (r : Result (List Entry) DirFault) (reading : Reading) (d size : ℕ) (bytes : List ℕ) → 200 + size ≤ length bytes → Keeps reading (blocks_in_dinode d size bytes)
     → (nat_le size (number_at 0xc0 2 bytes) && nat_le (number_at 0xc0 2 bytes) (length bytes - 200)) ≡ true
+    → IfOk r (λ es. (bs : List DirBlock) → Keeps reading bs → es ≡ flat_map entries_of_block bs)
     → IfOk r (λ _. reading.faults.items ≡ [])
-    → IfOk r (λ _. (v : Volume) → length bytes ≡ 2 ^ v.geo.block_bits → IsInline v d size bytes → FailsNone v d)
-sound_told r reading d size bytes room kept test = IfOk-weaker r
-    (λ _. reading.faults.items ≡ [])
-    (λ _. (v : Volume) → length bytes ≡ 2 ^ v.geo.block_bits → IsInline v d size bytes → FailsNone v d)
-    (λ es none v long h. record {
-      extent = h.sound;
-      size = size_sound v d (size_is v d size bytes long h ∙ test);
-      blocks = sym (faults_kept v d (blocks_in_dinode d size bytes) reading (blocks_are v d size bytes long h room) kept) ∙ none;
-    })
+    → IfOk r (λ es. (v : Volume) → length bytes ≡ 2 ^ v.geo.block_bits → IsInline v d size bytes → NoneFails (directory_checks d) v × (es ≡ directory_entries v d))
+told (Ok es) reading d size bytes room kept test sound none = λ v long h.
+    let blocks = blocks_in_dinode d size bytes in
+    let are = blocks_are v d size bytes long h room in (
+      (h.sound, (size_sound v d (size_is v d size bytes long h ∙ test), (sym (faults_kept v d blocks reading are kept) ∙ none, tt))),
+      sound blocks kept ∙ entries_kept v d blocks are,
+    )
+told (Err fault) reading d size bytes room kept test sound none = tt
 
 pub bad_told : (r : Result (List Entry) DirFault) (reading : Reading) (d size : ℕ) (bytes : List ℕ) → 200 + size ≤ length bytes → Keeps reading (blocks_in_dinode d size bytes)
     → (nat_le size (number_at 0xc0 2 bytes) && nat_le (number_at 0xc0 2 bytes) (length bytes - 200)) ≡ true
     → IfErr r (λ fault. (check : Check) (b : ℕ) → fault ≡ Faults.Bad check b → (check ≡ Checks.DirBlock) × IsLeast b reading.faults.items)
-    → IfErr r (λ fault. (check : Check) (b : ℕ) → fault ≡ Faults.Bad check b → (v : Volume) → length bytes ≡ 2 ^ v.geo.block_bits → IsInline v d size bytes → FailsFirst v d check b)
+    → IfErr r (λ fault. (check : Check) (b : ℕ) → fault ≡ Faults.Bad check b
+    → IsOwn (directory_checks d) check × ((v : Volume) → length bytes ≡ 2 ^ v.geo.block_bits → IsInline v d size bytes → FailsFirst (directory_checks d) v check b))
 bad_told r reading d size bytes room kept test = IfErr-weaker r
     (λ fault. (check : Check) (b : ℕ) → fault ≡ Faults.Bad check b → (check ≡ Checks.DirBlock) × IsLeast b reading.faults.items)
-    (λ fault. (check : Check) (b : ℕ) → fault ≡ Faults.Bad check b → (v : Volume) → length bytes ≡ 2 ^ v.geo.block_bits → IsInline v d size bytes → FailsFirst v d check b)
-    (λ fault bad check b is v long h.
-    let first = bad check b is in
-    fails_blocks v d check b reading.faults.items first.0 h.sound (size_is v d size bytes long h ∙ test)
-    (faults_kept v d (blocks_in_dinode d size bytes) reading (blocks_are v d size bytes long h room) kept) first.1)
+    (λ fault. (check : Check) (b : ℕ) → fault ≡ Faults.Bad check b
+    → IsOwn (directory_checks d) check × ((v : Volume) → length bytes ≡ 2 ^ v.geo.block_bits → IsInline v d size bytes → FailsFirst (directory_checks d) v check b))
+    (λ fault bad check b is.
+    let first = bad check b is in (
+      inr (inr (inl first.0)),
+      λ v long h. fails_blocks v d check b reading.faults.items first.0 h.sound (size_is v d size bytes long h ∙ test)
+          (faults_kept v d (blocks_in_dinode d size bytes) reading (blocks_are v d size bytes long h room) kept) first.1,
+    ))

@@ -71,16 +71,16 @@ are_joined text goes =
       form = all.form;
     }
 
-left_of : (x y : Bool) → (x && y) ≡ true → x ≡ true
+pub left_of : (x y : Bool) → (x && y) ≡ true → x ≡ true
 left_of true y both = refl
 left_of false y both = both
 
-right_of : (x y : Bool) → (x && y) ≡ true → y ≡ true
+pub right_of : (x y : Bool) → (x && y) ≡ true → y ≡ true
 right_of true y both = both
 right_of false y both = absurd (let none : ⊥ = cc both in none)
 
 -- no slash
-is_other : (b : ℕ) → is_of_name b ≡ true → (b == 47) ≡ false
+pub is_other : (b : ℕ) → is_of_name b ≡ true → (b == 47) ≡ false
 is_other b plain = elim (cases_Bool (b == 47)) [
   | inl slash ↦ absurd (let none : ⊥ = (let same : false ≡ true = rw slash at plain in cc same) in none)
   | inr other ↦ other

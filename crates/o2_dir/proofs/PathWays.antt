@@ -1,17 +1,16 @@
 -- What the names left of a path say of the whole path.
-use Rattle.std.proofs.Common.{◌≡◌, ◌≢◌, inl, inr, ℕ, ◌+◌, ◌-◌, ◌<◌, ◌≤◌, get_or, Bool, true, false, ◌&&◌, ◌==◌, List, [], ◌∷◌, ◌++◌, length, take, drop, ◌⊎◌, refl, sym, ◌∙◌, ap, subst, arith}
+use Rattle.std.proofs.Common.{◌≡◌, ◌≢◌, inl, inr, ℕ, ◌+◌, ◌-◌, ◌<◌, ◌≤◌, get_or, Bool, true, false, ◌==◌, List, [], ◌∷◌, ◌++◌, length, take, drop, ◌⊎◌, refl, sym, ◌∙◌, ap, subst, arith, append_assoc}
 use Rattle.std.specs.List.{list_all, join_with_byte, position_or_len}
 use Rattle.std.proofs.lemmas.Bool.{cases_Bool, eqb-true}
 use Rattle.std.proofs.lemmas.Bool.Decides.{nat_tests}
 use Rattle.std.proofs.lemmas.List.{append-nil, take_rest, drop-drop}
 use Rattle.std.proofs.Math.Seq.{take-append_seam, drop-append-add}
-use Rattle.o2_model.specs.declared.check.Check.{Check}
 use Rattle.o2_model.specs.declared.geo.Geo.{Geo}
 use Rattle.o2_model.specs.Volume.{Volume}
-use Rattle.o2_model.specs.Inodes.{is_directory}
 use Rattle.o2_model.specs.declared.entry.Entry.{Entry}
 use Rattle.o2_dir.specs.PathTexts.{is_of_name, is_name}
-use Rattle.o2_dir.specs.Paths.{AreNames, Begins, StepsTo, Leads, OnTheWay, Lacks, IsNoDirectory, FailsAt}
+use Rattle.o2_dir.specs.Paths.{AreNames, Begins, StepsTo, Leads, OnTheWay}
+use Rattle.o2_dir.proofs.PathNames.{left_of, right_of, is_other}
 
 -- ---- the first slash
 pub is_slash : (b : ℕ) → b ≡ 47 → (b == 47) ≡ true
@@ -33,20 +32,6 @@ pub none_to : (text : List ℕ) (k : ℕ) → ((j : ℕ) → j < k → (get_or t
 none_to text k before past j below = before j (grind (arith, nat_tests, below, past))
 
 -- ---- the first of some joined names
-left_of : (x y : Bool) → (x && y) ≡ true → x ≡ true
-left_of true y both = refl
-left_of false y both = both
-
-right_of : (x y : Bool) → (x && y) ≡ true → y ≡ true
-right_of true y both = both
-right_of false y both = absurd (let none : ⊥ = cc both in none)
-
-is_other : (b : ℕ) → is_of_name b ≡ true → (b == 47) ≡ false
-is_other b plain = elim (cases_Bool (b == 47)) [
-  | inl slash ↦ absurd (let none : ⊥ = (let same : false ≡ true = rw slash at plain in cc same) in none)
-  | inr other ↦ other
-]
-
 length_is : (n rest : List ℕ) → list_all is_of_name n ≡ true → (rest ≡ []) ⊎ ((more : List ℕ) × (rest ≡ 47 ∷ more)) → position_or_len (λ b. b == 47) (n ++ rest) ≡ length n
 length_is [] rest plain (inl none) = rw none refl
 length_is [] rest plain (inr more) = rw more.1 refl
@@ -110,69 +95,59 @@ pub rest_behind : (k : ℕ) (text part rest : List ℕ) → part ≡ take (lengt
 rest_behind k text part rest is behind = behind ∙ (ap (drop 1) (is ∙ take_rest text k) ∙ drop-drop 1 k text)
 
 -- ---- the names left
--- These are the names left, behind those that lead to this inode, and what holds of the way on holds of the whole way.
+-- The names before these led to this inode, and the text is that of these.
 pub record Remains (v : Volume) (start : ℕ) (names : List (List ℕ)) (now : ℕ) (text : List ℕ) : Type 0 where
+  pub gone : List (List ℕ)
   pub left : List (List ℕ)
+  pub all : names ≡ gone ++ left
+  pub led : Leads v start gone now
   pub are : AreNames text left
-  pub leads : (i : ℕ) → Leads v now left i → Leads v start names i
-  pub lacks : OnTheWay Lacks v now left → OnTheWay Lacks v start names
-  pub kinds : OnTheWay IsNoDirectory v now left → OnTheWay IsNoDirectory v start names
-  pub fails : (check : Check) (b : ℕ) → OnTheWay (FailsAt check b) v now left → OnTheWay (FailsAt check b) v start names
 
 pub all_remain : (v : Volume) (start : ℕ) (names : List (List ℕ)) (text : List ℕ) → AreNames text names → Remains v start names start text
-all_remain v start names text h = record { left = names; are = h; leads = λ i l. l; lacks = λ l. l; kinds = λ l. l; fails = λ check b l. l }
+all_remain v start names text h = record { gone = []; left = names; all = refl; led = refl; are = h }
+
+-- the names left lead on from where the others led
+leads_on : (v : Volume) (start : ℕ) (gone left : List (List ℕ)) (now i : ℕ) → Leads v start gone now → Leads v now left i → Leads v start (gone ++ left) i
+leads_on v start [] left now i led on = subst (λ (d : ℕ). Leads v d left i) led on
+leads_on v start (name ∷ gone) left now i led on = (led.0, led.1, leads_on v led.0.inode gone left now i led.2 on)
+
+-- what holds on the way of the names left holds on the whole way
+holds_on : (Holds : Volume → ℕ → List ℕ → Type 0) (v : Volume) (start : ℕ) (gone left : List (List ℕ)) (now : ℕ) → Leads v start gone now → OnTheWay Holds v now left → OnTheWay Holds v start (gone ++ left)
+holds_on Holds v start [] left now led on = subst (λ (d : ℕ). OnTheWay Holds v d left) led on
+holds_on Holds v start (name ∷ gone) left now led on = inr (led.0, led.1, holds_on Holds v led.0.inode gone left now led.2 on)
 
 -- the first of the names left, and those behind it
-record Next (v : Volume) (start : ℕ) (names : List (List ℕ)) (now : ℕ) (text : List ℕ) : Type 0 where
+record Next (text : List ℕ) (left : List (List ℕ)) : Type 0 where
   name : List ℕ
   others : List (List ℕ)
+  is : left ≡ name ∷ others
   is_first : First text name others
-  leads : (i : ℕ) → Leads v now (name ∷ others) i → Leads v start names i
-  lacks : OnTheWay Lacks v now (name ∷ others) → OnTheWay Lacks v start names
-  kinds : OnTheWay IsNoDirectory v now (name ∷ others) → OnTheWay IsNoDirectory v start names
-  fails : (check : Check) (b : ℕ) → OnTheWay (FailsAt check b) v now (name ∷ others) → OnTheWay (FailsAt check b) v start names
 
-next_of : (v : Volume) (start : ℕ) (names : List (List ℕ)) (now : ℕ) (text : List ℕ) (left : List (List ℕ)) → AreNames text left → text ≢ []
-    → ((i : ℕ) → Leads v now left i → Leads v start names i)
-    → (OnTheWay Lacks v now left → OnTheWay Lacks v start names)
-    → (OnTheWay IsNoDirectory v now left → OnTheWay IsNoDirectory v start names)
-    → ((check : Check) (b : ℕ) → OnTheWay (FailsAt check b) v now left → OnTheWay (FailsAt check b) v start names)
-    → Next v start names now text
-next_of v start names now text [] h some leads lacks kinds fails = absurd (some h.form)
-next_of v start names now text (n ∷ ns) h some leads lacks kinds fails = record { name = n; others = ns; is_first = first_is text n ns h; leads = leads; lacks = lacks; kinds = kinds; fails = fails }
-
-next : (v : Volume) (start : ℕ) (names : List (List ℕ)) (now : ℕ) (text : List ℕ) → text ≢ [] → Remains v start names now text → Next v start names now text
-next v start names now text some h = next_of v start names now text h.left h.are some h.leads h.lacks h.kinds h.fails
+next : (text : List ℕ) (left : List (List ℕ)) → text ≢ [] → AreNames text left → Next text left
+next text [] some h = absurd (some h.form)
+next text (n ∷ ns) some h = record { name = n; others = ns; is = refl; is_first = first_is text n ns h }
 
 pub one_less : (v : Volume) (start : ℕ) (names : List (List ℕ)) (now : ℕ) (text : List ℕ) (k : ℕ) (e : Entry) → text ≢ [] → k ≡ position_or_len (λ b. b == 47) text
     → StepsTo v now (take k text) e → Remains v start names now text → Remains v start names e.inode (drop (k + 1) text)
 one_less v start names now text k e some is step h =
-    let n = next v start names now text some h in
+    let n = next text h.left some h.are in
     let steps : StepsTo v now n.name e = subst (λ (name : List ℕ). StepsTo v now name e) (ap (λ c. take c text) is ∙ n.is_first.first) step in
     record {
+      gone = h.gone ++ n.name ∷ [];
       left = n.others;
+      all = h.all ∙ (ap (λ (ns : List (List ℕ)). h.gone ++ ns) n.is ∙ sym (append_assoc h.gone (n.name ∷ []) n.others));
+      led = leads_on v start h.gone (n.name ∷ []) now e.inode h.led (e, steps, refl);
       are = subst (λ (c : ℕ). AreNames (drop (c + 1) text) n.others) (sym is) n.is_first.others;
-      leads = λ i l. n.leads i (e, steps, l);
-      lacks = λ l. n.lacks (inr (e, steps, l));
-      kinds = λ l. n.kinds (inr (e, steps, l));
-      fails = λ check b l. n.fails check b (inr (e, steps, l));
     }
 
-pub lacks_here : (v : Volume) (start : ℕ) (names : List (List ℕ)) (now : ℕ) (text : List ℕ) (k : ℕ) → text ≢ [] → k ≡ position_or_len (λ b. b == 47) text
-    → Lacks v now (take k text) → Remains v start names now text → OnTheWay Lacks v start names
-lacks_here v start names now text k some is here h =
-    let n = next v start names now text some h in
-    n.lacks (inl (subst (λ (name : List ℕ). Lacks v now name) (ap (λ c. take c text) is ∙ n.is_first.first) here))
-
-pub kind_here : (v : Volume) (start : ℕ) (names : List (List ℕ)) (now : ℕ) (text : List ℕ) → text ≢ []
-    → is_directory v now ≡ false → Remains v start names now text → OnTheWay IsNoDirectory v start names
-kind_here v start names now text some here h = (next v start names now text some h).kinds (inl here)
-
-pub fails_here : (v : Volume) (start : ℕ) (names : List (List ℕ)) (now : ℕ) (text : List ℕ) (k : ℕ) (check : Check) (b : ℕ) → text ≢ [] → k ≡ position_or_len (λ b. b == 47) text
-    → FailsAt check b v now (take k text) → Remains v start names now text → OnTheWay (FailsAt check b) v start names
-fails_here v start names now text k check b some is here h =
-    let n = next v start names now text some h in
-    n.fails check b (inl (subst (λ (name : List ℕ). FailsAt check b v now name) (ap (λ c. take c text) is ∙ n.is_first.first) here))
+-- what holds of the first of the names left holds on the way
+pub holds_here : (Holds : Volume → ℕ → List ℕ → Type 0) (v : Volume) (start : ℕ) (names : List (List ℕ)) (now : ℕ) (text : List ℕ) (k : ℕ) → text ≢ [] → k ≡ position_or_len (λ b. b == 47) text
+    → Holds v now (take k text) → Remains v start names now text → OnTheWay Holds v start names
+holds_here Holds v start names now text k some is here h =
+    let n = next text h.left some h.are in
+    let first : Holds v now n.name = subst (λ (name : List ℕ). Holds v now name) (ap (λ c. take c text) is ∙ n.is_first.first) here in
+    let on : OnTheWay Holds v now h.left = subst (λ (ns : List (List ℕ)). OnTheWay Holds v now ns) (sym n.is) (inl first) in
+    subst (λ (ns : List (List ℕ)). OnTheWay Holds v start ns) (sym h.all) (holds_on Holds v start h.gone h.left now h.led on)
 
 no_names : (names : List (List ℕ)) → AreNames [] names → names ≡ []
 no_names [] h = refl
@@ -181,7 +156,8 @@ no_names (n ∷ ns) h = absurd (some_name n (behind_first ns) (left_of (is_name 
 pub none_left : (v : Volume) (start : ℕ) (names : List (List ℕ)) (now : ℕ) (text : List ℕ) → text ≡ [] → Remains v start names now text → Leads v start names now
 none_left v start names now text end h =
     let none = no_names h.left (subst (λ (t : List ℕ). AreNames t h.left) end h.are) in
-    h.leads now (subst (λ (ns : List (List ℕ)). Leads v now ns now) (sym none) refl)
+    let on : Leads v now h.left now = subst (λ (ns : List (List ℕ)). Leads v now ns now) (sym none) refl in
+    subst (λ (ns : List (List ℕ)). Leads v start ns now) (sym h.all) (leads_on v start h.gone h.left now now h.led on)
 
 -- ---- where a path begins
 no_slash_first : (names : List (List ℕ)) (rest : List ℕ) → list_all is_name names ≡ true → join_with_byte 47 names ≢ 47 ∷ rest

@@ -1,24 +1,48 @@
--- What is wrong with a directory, and what a reader of its blocks is given.
-use Rattle.std.specs.Prelude.{◌≡◌, ℕ, true, false, List, [], ◌∷◌}
-use Rattle.o2_model.specs.declared.check.Check.{Check}
+-- What a reader of an inode judges by itself, how it fails, and what a reader of blocks is given.
+use Rattle.std.specs.Prelude.{◌≡◌, ℕ, true, false, List, [], ◌∷◌, None}
+use Rattle.o2_disk.specs.Device.{Rose}
+use Rattle.o2_disk.specs.declared.disk.Disk as disk
 use Rattle.o2_model.specs.declared.check.Check.TheVariants as check
+use Rattle.o2_model.specs.declared.geo.Geo.{Geo}
+use Rattle.o2_model.specs.declared.leaf.Leaf.{Leaf}
 use Rattle.o2_model.specs.Volume.{Volume, dinode}
+use Rattle.o2_model.specs.Directories.{first_named}
 use Rattle.o2_model.specs.Inodes.{is_directory, is_inline, leaf_records}
 use Rattle.o2_model.specs.Checks.Extent.{extent_faults}
 use Rattle.o2_model.specs.Checks.InodeSize.{inode_size_faults}
 use Rattle.o2_model.specs.Checks.DirBlock.{dir_block_faults}
-use Rattle.o2_model.specs.FirstFault.{FailsFirst as FailsFirstOf}
-use Rattle.o2_model.specs.declared.leaf.Leaf.{Leaf}
+use Rattle.o2_view.specs.OwnChecks.{OwnCheck, NoneFails, IsBad}
+use Rattle.o2_view.specs.Views.{view_state, Shows}
+use Rattle.o2_view.specs.declared.view.View.{View}
+use Rattle.o2_dir.specs.declared.fault.DirFault.{DirFault}
+use Rattle.o2_dir.specs.declared.fault.DirFault.TheVariants as dir
 
--- EXTENT, INODE_SIZE and DIR_BLOCK hold for the directory
-pub record FailsNone (v : Volume) (d : ℕ) : Type 0 where
-  pub extent : extent_faults v d ≡ []
-  pub size : inode_size_faults v d ≡ []
-  pub blocks : dir_block_faults v d ≡ []
+-- what a reader of an inode's bytes judges: EXTENT and INODE_SIZE
+abbrev pub data_checks : ℕ → List OwnCheck
+data_checks b =
+    record { check = check.Extent; faults = λ v. extent_faults v b }
+    ∷ record { check = check.InodeSize; faults = λ v. inode_size_faults v b }
+    ∷ []
 
--- This is the first of these checks that fails for the directory, and this is the least block at which it does.
-unfoldable pub FailsFirst : Volume → ℕ → Check → ℕ → Type 0
-FailsFirst v d = FailsFirstOf ((check.Extent, extent_faults v d) ∷ (check.InodeSize, inode_size_faults v d) ∷ (check.DirBlock, dir_block_faults v d) ∷ [])
+-- what a reader of a directory's entries judges: these two and DIR_BLOCK
+abbrev pub directory_checks : ℕ → List OwnCheck
+directory_checks d =
+    record { check = check.Extent; faults = λ v. extent_faults v d }
+    ∷ record { check = check.InodeSize; faults = λ v. inode_size_faults v d }
+    ∷ record { check = check.DirBlock; faults = λ v. dir_block_faults v d }
+    ∷ []
+
+module _ {D : Type 0} {N : ℕ} {g : disk.Ghosts D} where
+  -- why entries were not read: one of these checks fails too, and where no entry has the name, this holds
+  abbrev pub DirFails : View D N g → View D N g → Geo → List OwnCheck → Type 0 → DirFault → Type 0
+  DirFails old new geo checks absent dir.NoMemory = Unit {0}
+  DirFails old new geo checks absent dir.DeviceFault = Rose (view_state old).faults (view_state new).faults
+  DirFails old new geo checks absent (dir.Bad check b) = IsBad old geo checks check b
+  DirFails old new geo checks absent dir.Absent = absent
+
+  -- no live entry has the name, and nothing is wrong with the directory
+  abbrev pub HasNone : View D N g → Geo → ℕ → List ℕ → Type 0
+  HasNone view geo d name = (v : Volume) → Shows view geo v → NoneFails (directory_checks d) v × (first_named v d name ≡ None)
 
 -- an inode whose block has these bytes, and whose extents are well formed, with these leaf records
 pub record IsRead (v : Volume) (d : ℕ) (bytes : List ℕ) (leaves : List Leaf) : Type 0 where

@@ -1,12 +1,12 @@
 // The blocks of a directory that its records map.
-ghost use Rattle.std.specs.Prelude.{◌≡◌, ◌<◌, List, All, map, OnOk, IfOk, IsErrOf, Some};
-ghost use Rattle.o2_disk.specs.Image.{Image};
-ghost use Rattle.o2_disk.specs.Device.{Rose};
-ghost use Rattle.o2_view.specs.Views.{view_state, view_blocks};
+ghost use Rattle.std.specs.Prelude.{◌<◌, List, All, map, OnOk, IfOk};
+ghost use Rattle.std.specs.Result.{IfErr};
+ghost use Rattle.o2_view.specs.Views.{view_blocks, Shows, OnlyReads};
+ghost use Rattle.o2_view.specs.Geos.{LiesIn, Reaches};
+ghost use Rattle.o2_view.specs.OwnChecks.{BlockFails};
 ghost use Rattle.o2_model.specs.Words.{push};
 ghost use Rattle.o2_model.specs.Directories.{DirBlock};
-ghost use Rattle.o2_extent.specs.Seen.{LiesIn, volume_seen};
-ghost use Rattle.o2_extent.specs.Reads.{OnlyReads};
+ghost use Rattle.o2_model.specs.Volume.{Volume};
 ghost use Rattle.o2_dir.specs.Blocks.{Keeps, block_at_place};
 
 use crate::places::Place;
@@ -25,12 +25,11 @@ fn read_place<D: Disk, const N: usize>(
     p: &Place,
     reading: &mut Reading,
 ) -> Result<(), ViewFault>
-    requires geo { LiesIn geo.now view.old }
-    requires inside { p.now.block < view_blocks view.old }
-    ensures read { OnOk result ((I : Image) → (view_state view.old).content ≡ Some I → (bs : List DirBlock) → Keeps reading.old bs
-        → Keeps reading.new (push bs (block_at_place (volume_seen geo.now I) p.now))) }
+    requires inside { Reaches geo.now view.old p.now.block }
+    ensures read { OnOk result ((v : Volume) → Shows view.old geo.now v → (bs : List DirBlock) → Keeps reading.old bs
+        → Keeps reading.new (push bs (block_at_place v p.now))) }
     ensures reads { OnlyReads view.old view.new }
-    ensures fault { IsErrOf result ViewFault.DeviceFault → Rose (view_state view.old).faults (view_state view.new).faults }
+    ensures fails { IfErr result (BlockFails view.old view.new) }
 {
     let block = look(view, geo, p.block)?;
     add_block(alloc, block.as_slice(), p.place, p.block, reading)?;
@@ -46,10 +45,10 @@ pub fn read_places<D: Disk, const N: usize>(
 ) -> Result<Reading, ViewFault>
     requires geo { LiesIn geo.now view.old }
     requires inside { All (λ p. p.block < view_blocks view.old) places.now }
-    ensures read { IfOk result (λ reading. (I : Image) → (view_state view.old).content ≡ Some I
-        → Keeps reading (map (block_at_place (volume_seen geo.now I)) places.now)) }
+    ensures read { IfOk result (λ reading. (v : Volume) → Shows view.old geo.now v
+        → Keeps reading (map (block_at_place v) places.now)) }
     ensures reads { OnlyReads view.old view.new }
-    ensures fault { IsErrOf result ViewFault.DeviceFault → Rose (view_state view.old).faults (view_state view.new).faults }
+    ensures fails { IfErr result (BlockFails view.old view.new) }
 {
     let mut reading = start(alloc);
     for p in places {

@@ -1,14 +1,13 @@
 // Which inodes have bytes.
-ghost use Rattle.std.specs.Prelude.{◌≡◌, ◌^◌, ◌≤◌, ◌<◌, ◌||◌, length, true, false, IfOk, IsErrOf, Some};
-ghost use Rattle.o2_disk.specs.Image.{Image};
-ghost use Rattle.o2_disk.specs.Device.{Rose};
+ghost use Rattle.std.specs.Prelude.{◌≡◌, ◌||◌, true, false, IfOk};
+ghost use Rattle.std.specs.Result.{IfErr};
 ghost use Rattle.o2_ondisk.specs.Dinodes.{dinode_of};
 ghost use Rattle.o2_ondisk.specs.Kinds.{kind_of_mode};
-ghost use Rattle.o2_view.specs.Views.{view_state, view_blocks};
+ghost use Rattle.o2_view.specs.Views.{Shows, OnlyReads};
+ghost use Rattle.o2_view.specs.Geos.{Reaches, HasSizes};
+ghost use Rattle.o2_view.specs.OwnChecks.{BlockFails};
 ghost use Rattle.o2_model.specs.Volume.{Volume, is_valid};
 ghost use Rattle.o2_model.specs.Inodes.{is_file_kind, is_link_kind};
-ghost use Rattle.o2_extent.specs.Seen.{HasSizes, LiesIn, volume_seen};
-ghost use Rattle.o2_extent.specs.Reads.{OnlyReads};
 ghost use Rattle.o2_dir.specs.FileData.{HasBytes};
 
 use o2_disk::Disk;
@@ -21,7 +20,7 @@ use o2_view::{View, ViewFault};
 #[tactic(auto, unfolding(o2_model::specs::Volume::is_valid))]
 pub fn is_valid_dinode(geo: &Geo, b: u64, dinode: &Dinode) -> bool
     requires { HasSizes geo.now }
-    ensures { (I : Image) → dinode.now ≡ dinode_of ((volume_seen geo.now I).at b) → result ≡ is_valid (volume_seen geo.now I) b }
+    ensures { (v : Volume) → v.geo ≡ geo.now → dinode.now ≡ dinode_of (v.at b) → result ≡ is_valid v b }
 {
     let blocks = volume_blocks(geo);
     0 < b
@@ -49,12 +48,11 @@ pub fn has_bytes<D: Disk, const N: usize>(
     geo: &Geo,
     inode: u64,
 ) -> Result<bool, ViewFault>
-    requires geo { LiesIn geo.now view.old }
-    requires inode { inode < view_blocks view.old }
-    ensures yes { IfOk result (λ yes. yes ≡ true → (I : Image) → (view_state view.old).content ≡ Some I → HasBytes (volume_seen geo.now I) inode) }
-    ensures no { IfOk result (λ yes. yes ≡ false → (I : Image) → (view_state view.old).content ≡ Some I → HasBytes (volume_seen geo.now I) inode → ⊥) }
+    requires inode { Reaches geo.now view.old inode }
+    ensures yes { IfOk result (λ yes. yes ≡ true → (v : Volume) → Shows view.old geo.now v → HasBytes v inode) }
+    ensures no { IfOk result (λ yes. yes ≡ false → (v : Volume) → Shows view.old geo.now v → HasBytes v inode → ⊥) }
     ensures reads { OnlyReads view.old view.new }
-    ensures fault { IsErrOf result ViewFault.DeviceFault → Rose (view_state view.old).faults (view_state view.new).faults }
+    ensures fails { IfErr result (BlockFails view.old view.new) }
 {
     let block = look(view, geo, inode)?;
     let dinode = read_dinode(block.as_slice());

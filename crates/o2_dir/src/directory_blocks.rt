@@ -1,12 +1,11 @@
 // The blocks of a directory, also where something is wrong with it.
-ghost use Rattle.std.specs.Prelude.{◌≡◌, ◌∷◌, [], ◌^◌, ◌/◌, ◌≤◌, ◌<◌, length, map, IfOk, IsErrOf, Some};
-ghost use Rattle.o2_disk.specs.Image.{Image};
-ghost use Rattle.o2_disk.specs.Device.{Rose};
-ghost use Rattle.o2_view.specs.Views.{view_state, view_blocks};
+ghost use Rattle.std.specs.Prelude.{◌≡◌, ◌∷◌, [], ◌^◌, ◌/◌, ◌≤◌, length, map, IfOk};
+ghost use Rattle.std.specs.Result.{IfErr};
+ghost use Rattle.o2_view.specs.Views.{Shows, OnlyReads};
+ghost use Rattle.o2_view.specs.Geos.{LiesIn, Reaches};
+ghost use Rattle.o2_view.specs.OwnChecks.{BlockFails};
 ghost use Rattle.o2_model.specs.Volume.{Volume, per_cluster, block_size};
 ghost use Rattle.o2_model.specs.Directories.{dir_blocks, inline_block};
-ghost use Rattle.o2_extent.specs.Seen.{LiesIn, volume_seen};
-ghost use Rattle.o2_extent.specs.Reads.{OnlyReads};
 ghost use Rattle.o2_extent.specs.Readings.{Within};
 ghost use Rattle.o2_dir.specs.Blocks.{Keeps, block_at_place, places_of};
 
@@ -47,10 +46,10 @@ fn read_mapped<D: Disk, const N: usize>(
 ) -> Result<Reading, ViewFault>
     requires geo { LiesIn geo.now view.old }
     requires within { Within geo.now leaves.now }
-    ensures read { IfOk result (λ reading. (I : Image) → (view_state view.old).content ≡ Some I
-        → Keeps reading (map (block_at_place (volume_seen geo.now I)) (places_of (per_cluster (volume_seen geo.now I)) (size / block_size (volume_seen geo.now I)) leaves.now))) }
+    ensures read { IfOk result (λ reading. (v : Volume) → Shows view.old geo.now v
+        → Keeps reading (map (block_at_place v) (places_of (per_cluster v) (size / block_size v) leaves.now))) }
     ensures reads { OnlyReads view.old view.new }
-    ensures fault { IsErrOf result ViewFault.DeviceFault → Rose (view_state view.old).faults (view_state view.new).faults }
+    ensures fails { IfErr result (BlockFails view.old view.new) }
 {
     let bytes = block_bytes(geo);
     let per_cluster = blocks_per_cluster(geo);
@@ -66,11 +65,10 @@ pub fn read_blocks<D: Disk, const N: usize>(
     geo: &Geo,
     inode: u64,
 ) -> Result<Reading, ViewFault>
-    requires geo { LiesIn geo.now view.old }
-    requires inode { inode < view_blocks view.old }
-    ensures read { IfOk result (λ reading. (I : Image) → (view_state view.old).content ≡ Some I → Keeps reading (dir_blocks (volume_seen geo.now I) inode)) }
+    requires inode { Reaches geo.now view.old inode }
+    ensures read { IfOk result (λ reading. (v : Volume) → Shows view.old geo.now v → Keeps reading (dir_blocks v inode)) }
     ensures reads { OnlyReads view.old view.new }
-    ensures fault { IsErrOf result ViewFault.DeviceFault → Rose (view_state view.old).faults (view_state view.new).faults }
+    ensures fails { IfErr result (BlockFails view.old view.new) }
 {
     let found = read_inode(alloc, view, geo, inode)?;
     let bytes = found.block.as_slice();

@@ -1,18 +1,16 @@
 // The bytes of a file or a link.
-ghost use Rattle.std.specs.Prelude.{◌≡◌, ◌-◌, ◌^◌, ◌≤◌, ◌<◌, ℕ, length, map, min, take, drop, IfOk, IsErrOf, Some};
+ghost use Rattle.std.specs.Prelude.{◌≡◌, ◌-◌, ◌≤◌, ℕ, length, map, min, take, drop, IfOk};
 ghost use Rattle.std.specs.List.{range_with_len};
 ghost use Rattle.std.specs.Result.{IfErr};
-ghost use Rattle.o2_disk.specs.Image.{Image};
-ghost use Rattle.o2_disk.specs.Device.{Rose};
-ghost use Rattle.o2_view.specs.Views.{view_state, view_blocks};
-ghost use Rattle.o2_model.specs.declared.check.Check.{Check};
+ghost use Rattle.o2_view.specs.Views.{Shows, OnlyReads};
+ghost use Rattle.o2_view.specs.Geos.{LiesIn, Reaches};
+ghost use Rattle.o2_view.specs.OwnChecks.{BlockFails, ReadFails, NoneFails};
 ghost use Rattle.o2_model.specs.Contents.{byte_of, bytes_of};
-ghost use Rattle.o2_extent.specs.Seen.{LiesIn, volume_seen};
-ghost use Rattle.o2_extent.specs.Reads.{OnlyReads};
+ghost use Rattle.o2_model.specs.Volume.{Volume};
 ghost use Rattle.o2_extent.specs.Readings.{Within};
 ghost use Rattle.o2_extent.specs.Rising.{AreRising};
-ghost use Rattle.o2_dir.specs.Fails.{IsRead};
-ghost use Rattle.o2_dir.specs.FileData.{HasBytes, IsSoundData, DataFailsFirst};
+ghost use Rattle.o2_dir.specs.Fails.{IsRead, data_checks};
+ghost use Rattle.o2_dir.specs.FileData.{HasBytes};
 ghost use Rattle.o2_dir.specs.InodeReadings.{Fits, TellsSound};
 
 use crate::inode_reading::{InodeReading, sound_inode_in};
@@ -63,10 +61,10 @@ fn read_mapped<D: Disk, const N: usize>(
 ) -> Result<Vec<u8>, ViewFault>
     requires geo { LiesIn geo.now view.old }
     requires within { Within geo.now leaves.now }
-    ensures bytes { IfOk result (λ out. (I : Image) → (view_state view.old).content ≡ Some I → AreRising leaves.now
-        → out.items ≡ take len (drop at (map (byte_of (volume_seen geo.now I) leaves.now) (range_with_len 0 size)))) }
+    ensures bytes { IfOk result (λ out. (v : Volume) → Shows view.old geo.now v → AreRising leaves.now
+        → out.items ≡ take len (drop at (map (byte_of v leaves.now) (range_with_len 0 size)))) }
     ensures reads { OnlyReads view.old view.new }
-    ensures fault { IsErrOf result ViewFault.DeviceFault → Rose (view_state view.old).faults (view_state view.new).faults }
+    ensures fails { IfErr result (BlockFails view.old view.new) }
 {
     let mut out = Vec::new(alloc);
     let end = end_of(size, at, len);
@@ -88,10 +86,10 @@ fn read_data<D: Disk, const N: usize>(
     requires geo { LiesIn geo.now view.old }
     requires long { 512 ≤ length bytes.now }
     requires within { Within geo.now leaves.now }
-    ensures bytes { IfOk result (λ out. (I : Image) → (view_state view.old).content ≡ Some I → (b : ℕ) → IsRead (volume_seen geo.now I) b bytes.now leaves.now
-        → out.items ≡ take len (drop at (bytes_of (volume_seen geo.now I) b))) }
+    ensures bytes { IfOk result (λ out. (v : Volume) → Shows view.old geo.now v → (b : ℕ) → IsRead v b bytes.now leaves.now
+        → out.items ≡ take len (drop at (bytes_of v b))) }
     ensures reads { OnlyReads view.old view.new }
-    ensures fault { IsErrOf result ViewFault.DeviceFault → Rose (view_state view.old).faults (view_state view.new).faults }
+    ensures fails { IfErr result (BlockFails view.old view.new) }
 {
     let dinode = read_dinode(bytes);
     if is_inline(&dinode) {
@@ -114,10 +112,10 @@ pub fn part_of_file<D: Disk, const N: usize>(
 ) -> Result<Bytes, ViewFault>
     requires geo { LiesIn geo.now view.old }
     requires fits { Fits geo.now reading.now }
-    ensures bytes { IfOk result (λ bytes. (I : Image) → (view_state view.old).content ≡ Some I → (b : ℕ) → TellsSound (volume_seen geo.now I) b reading.now
-        → bytes ≡ take len (drop at (bytes_of (volume_seen geo.now I) b))) }
+    ensures bytes { IfOk result (λ bytes. (v : Volume) → Shows view.old geo.now v → (b : ℕ) → TellsSound v b reading.now
+        → bytes ≡ take len (drop at (bytes_of v b))) }
     ensures reads { OnlyReads view.old view.new }
-    ensures fault { IsErrOf result ViewFault.DeviceFault → Rose (view_state view.old).faults (view_state view.new).faults }
+    ensures fails { IfErr result (BlockFails view.old view.new) }
 {
     let bytes = reading.block.as_slice();
     let leaves = reading.leaves.as_slice();
@@ -135,17 +133,12 @@ pub fn read_bytes<D: Disk, const N: usize>(
     at: u64,
     len: u32,
 ) -> Result<Bytes, ReadFault>
-    requires geo { LiesIn geo.now view.old }
-    requires inode { inode < view_blocks view.old }
-    // Whether a file past the clusters that have a number is one of the volume's own, the system directory says.
-    requires sysdir { geo.now.sysdir < view_blocks view.old }
-    requires has { (I : Image) → (view_state view.old).content ≡ Some I → HasBytes (volume_seen geo.now I) inode }
-    ensures bytes { IfOk result (λ bytes. (I : Image) → (view_state view.old).content ≡ Some I → bytes ≡ take len (drop at (bytes_of (volume_seen geo.now I) inode))) }
-    ensures sound { IfOk result (λ _. (I : Image) → (view_state view.old).content ≡ Some I → IsSoundData (volume_seen geo.now I) inode) }
-    ensures bad { IfErr result (λ fault. (check : Check) (b : ℕ) → fault ≡ ReadFault.Bad check b → (I : Image) → (view_state view.old).content ≡ Some I
-        → DataFailsFirst (volume_seen geo.now I) inode check b) }
+    requires inode { Reaches geo.now view.old inode }
+    requires has { (v : Volume) → Shows view.old geo.now v → HasBytes v inode }
+    ensures told { IfOk result (λ bytes. (v : Volume) → Shows view.old geo.now v
+        → NoneFails (data_checks inode) v × (bytes ≡ take len (drop at (bytes_of v inode)))) }
     ensures reads { OnlyReads view.old view.new }
-    ensures fault { IsErrOf result ReadFault.DeviceFault → Rose (view_state view.old).faults (view_state view.new).faults }
+    ensures fails { IfErr result (ReadFails view.old view.new geo.now (data_checks inode)) }
 {
     let block = look(view, geo, inode)?;
     let reading = sound_inode_in(alloc, view, geo, inode, block)?;

@@ -1,17 +1,17 @@
 // Whether the size of an inode is sound.
-ghost use Rattle.std.specs.Prelude.{◌≡◌, ◌-◌, ◌*◌, ◌^◌, ◌≤◌, ◌<◌, ◌||◌, ◌&&◌, true, nat_lt, nat_le, length, IfOk, IsErrOf, Some, if◌then◌else◌};
+ghost use Rattle.std.specs.Prelude.{◌≡◌, ◌-◌, ◌*◌, ◌^◌, ◌≤◌, ◌||◌, ◌&&◌, true, nat_lt, nat_le, length, IfOk, if◌then◌else◌};
 ghost use Rattle.std.specs.List.{list_any};
-ghost use Rattle.o2_disk.specs.Image.{Image};
-ghost use Rattle.o2_disk.specs.Device.{Rose};
+ghost use Rattle.std.specs.Result.{IfErr};
 ghost use Rattle.o2_ondisk.specs.Dinodes.{last_part_place};
-ghost use Rattle.o2_view.specs.Views.{view_state, view_blocks};
+ghost use Rattle.o2_view.specs.Views.{Shows, OnlyReads};
+ghost use Rattle.o2_view.specs.Geos.{LiesIn, HasSizes};
+ghost use Rattle.o2_view.specs.OwnChecks.{BlockFails};
 ghost use Rattle.o2_model.specs.Words.{among};
 ghost use Rattle.o2_model.specs.Directories.{own_inodes};
 ghost use Rattle.o2_model.specs.Inodes.{has_fast_text};
 ghost use Rattle.o2_model.specs.Contents.{maps_cluster};
 ghost use Rattle.o2_model.specs.Checks.InodeSize.{has_sound_size as is_sound};
-ghost use Rattle.o2_extent.specs.Seen.{HasSizes, LiesIn, volume_seen};
-ghost use Rattle.o2_extent.specs.Reads.{OnlyReads};
+ghost use Rattle.o2_model.specs.Volume.{Volume};
 ghost use Rattle.o2_extent.specs.Readings.{Within};
 ghost use Rattle.o2_dir.specs.Fails.{IsRead};
 
@@ -71,11 +71,10 @@ fn is_file_size<D: Disk, const N: usize>(
     size: u64,
 ) -> Result<bool, ViewFault>
     requires geo { LiesIn geo.now view.old }
-    requires sysdir { geo.now.sysdir < view_blocks view.old }
-    ensures sound { IfOk result (λ sound. (I : Image) → (view_state view.old).content ≡ Some I
-        → sound ≡ (nat_le size (2 ^ geo.now.cluster_bits * 2 ^ 32) || among (own_inodes (volume_seen geo.now I)) inode)) }
+    ensures sound { IfOk result (λ sound. (v : Volume) → Shows view.old geo.now v
+        → sound ≡ (nat_le size (2 ^ geo.now.cluster_bits * 2 ^ 32) || among (own_inodes v) inode)) }
     ensures reads { OnlyReads view.old view.new }
-    ensures fault { IsErrOf result ViewFault.DeviceFault → Rose (view_state view.old).faults (view_state view.new).faults }
+    ensures fails { IfErr result (BlockFails view.old view.new) }
 {
     if ends_in_numbered(geo, size) {
         return Ok(true);
@@ -93,14 +92,13 @@ pub fn has_sound_size<D: Disk, const N: usize>(
     leaves: &[Leaf],
 ) -> Result<bool, ViewFault>
     requires geo { LiesIn geo.now view.old }
-    requires sysdir { geo.now.sysdir < view_blocks view.old }
     requires size { length bytes.now ≡ 2 ^ geo.now.block_bits }
     requires long { 512 ≤ length bytes.now }
     requires within { Within geo.now leaves.now }
-    ensures sound { IfOk result (λ sound. (I : Image) → (view_state view.old).content ≡ Some I → IsRead (volume_seen geo.now I) inode bytes.now leaves.now
-        → sound ≡ is_sound (volume_seen geo.now I) inode) }
+    ensures sound { IfOk result (λ sound. (v : Volume) → Shows view.old geo.now v → IsRead v inode bytes.now leaves.now
+        → sound ≡ is_sound v inode) }
     ensures reads { OnlyReads view.old view.new }
-    ensures fault { IsErrOf result ViewFault.DeviceFault → Rose (view_state view.old).faults (view_state view.new).faults }
+    ensures fails { IfErr result (BlockFails view.old view.new) }
 {
     let dinode = read_dinode(bytes);
     if is_inline(&dinode) {

@@ -5,8 +5,9 @@ ghost use Rattle.o2_ondisk.specs.Dinodes.{last_part_place, inline_data_place};
 ghost use Rattle.o2_ondisk.specs.Number.{number_at};
 ghost use Rattle.o2_model.specs.Volume.{Volume};
 ghost use Rattle.o2_model.specs.Directories.{directory_entries};
+ghost use Rattle.o2_view.specs.OwnChecks.{NoneFails, IsOwn, FailsFirst};
 ghost use Rattle.o2_dir.specs.Blocks.{Keeps, blocks_in_dinode};
-ghost use Rattle.o2_dir.specs.Fails.{FailsNone, FailsFirst, IsInline};
+ghost use Rattle.o2_dir.specs.Fails.{IsInline, directory_checks};
 
 use crate::reading::{Reading, add_block, settle, start};
 use crate::{DirFault, Entries};
@@ -53,10 +54,11 @@ pub fn read_part(alloc: Global, inode: u64, size: u64, bytes: &[u8]) -> Result<R
 pub fn inlined(alloc: Global, inode: u64, size: u64, bytes: &[u8]) -> Result<Entries, DirFault>
     requires long { 512 ≤ length bytes.now }
     requires most { length bytes.now ≤ 4096 }
-    ensures entries { IfOk result (λ entries. (v : Volume) → length bytes.now ≡ 2 ^ v.geo.block_bits → IsInline v inode size bytes.now → entries ≡ directory_entries v inode) }
-    ensures sound { IfOk result (λ _. (v : Volume) → length bytes.now ≡ 2 ^ v.geo.block_bits → IsInline v inode size bytes.now → FailsNone v inode) }
-    ensures bad { IfErr result (λ fault. (check : Check) (b : ℕ) → fault ≡ DirFault.Bad check b → (v : Volume) → length bytes.now ≡ 2 ^ v.geo.block_bits
-        → IsInline v inode size bytes.now → FailsFirst v inode check b) }
+    ensures told { IfOk result (λ entries. (v : Volume) → length bytes.now ≡ 2 ^ v.geo.block_bits → IsInline v inode size bytes.now
+        → NoneFails (directory_checks inode) v × (entries ≡ directory_entries v inode)) }
+    ensures bad { IfErr result (λ fault. (check : Check) (b : ℕ) → fault ≡ DirFault.Bad check b
+        → IsOwn (directory_checks inode) check × ((v : Volume) → length bytes.now ≡ 2 ^ v.geo.block_bits → IsInline v inode size bytes.now
+        → FailsFirst (directory_checks inode) v check b)) }
     ensures present { IfErr result (λ fault. fault ≡ DirFault.Absent → ⊥) }
     ensures device { IfErr result (λ fault. fault ≡ DirFault.DeviceFault → ⊥) }
 {

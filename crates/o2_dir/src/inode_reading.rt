@@ -1,13 +1,11 @@
 // An inode that is read once, for all that is asked of it.
-ghost use Rattle.std.specs.Prelude.{◌≡◌, ◌^◌, ◌≤◌, ◌<◌, ℕ, length, IfOk, IsErrOf, Some};
+ghost use Rattle.std.specs.Prelude.{◌≡◌, ◌^◌, ◌≤◌, length, IfOk};
 ghost use Rattle.std.specs.Result.{IfErr};
-ghost use Rattle.o2_disk.specs.Image.{Image};
-ghost use Rattle.o2_disk.specs.Device.{Rose};
-ghost use Rattle.o2_view.specs.Views.{view_state, view_blocks};
-ghost use Rattle.o2_model.specs.declared.check.Check.{Check};
-ghost use Rattle.o2_extent.specs.Seen.{LiesIn, volume_seen};
-ghost use Rattle.o2_extent.specs.Reads.{OnlyReads};
-ghost use Rattle.o2_dir.specs.FileData.{DataFailsFirst};
+ghost use Rattle.o2_view.specs.Views.{Shows, OnlyReads};
+ghost use Rattle.o2_view.specs.Geos.{LiesIn};
+ghost use Rattle.o2_view.specs.OwnChecks.{ReadFails};
+ghost use Rattle.o2_model.specs.Volume.{Volume};
+ghost use Rattle.o2_dir.specs.Fails.{data_checks};
 ghost use Rattle.o2_dir.specs.InodeReadings.{Fits, TellsSound};
 
 use crate::file_size::has_sound_size;
@@ -28,7 +26,6 @@ pub struct InodeReading {
     pub leaves: Leaves,
 }
 
-#[tactic(auto, unfolding(crate::specs::FileData::DataFailsFirst))]
 /// Reads what there is to read of the inode whose block is in hand: the extent blocks of its list. Bad where EXTENT or INODE_SIZE
 /// fails for it.
 pub fn sound_inode_in<D: Disk, const N: usize>(
@@ -39,17 +36,13 @@ pub fn sound_inode_in<D: Disk, const N: usize>(
     block: Block,
 ) -> Result<InodeReading, ReadFault>
     requires geo { LiesIn geo.now view.old }
-    // Whether a file past the clusters that have a number is one of the volume's own, the system directory says.
-    requires sysdir { geo.now.sysdir < view_blocks view.old }
     requires size { length block ≡ 2 ^ geo.now.block_bits }
     requires long { 512 ≤ length block }
+    requires holds { (v : Volume) → Shows view.old geo.now v → block ≡ v.at inode }
     ensures fits { IfOk result (λ reading. Fits geo.now reading) }
-    ensures sound { IfOk result (λ reading. (I : Image) → (view_state view.old).content ≡ Some I → block ≡ (volume_seen geo.now I).at inode
-        → TellsSound (volume_seen geo.now I) inode reading) }
-    ensures bad { IfErr result (λ fault. (check : Check) (b : ℕ) → fault ≡ ReadFault.Bad check b → (I : Image) → (view_state view.old).content ≡ Some I
-        → block ≡ (volume_seen geo.now I).at inode → DataFailsFirst (volume_seen geo.now I) inode check b) }
+    ensures told { IfOk result (λ reading. (v : Volume) → Shows view.old geo.now v → TellsSound v inode reading) }
     ensures reads { OnlyReads view.old view.new }
-    ensures fault { IsErrOf result ReadFault.DeviceFault → Rose (view_state view.old).faults (view_state view.new).faults }
+    ensures fails { IfErr result (ReadFails view.old view.new geo.now (data_checks inode)) }
 {
     let leaves = records_in(alloc, view, geo, inode, block.as_slice())?;
     if !has_sound_size(alloc, view, geo, inode, block.as_slice(), leaves.as_slice())? {

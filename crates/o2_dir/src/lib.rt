@@ -25,8 +25,8 @@ mod route;
 #[cfg(test)]
 mod testing;
 
-pub use data_inode::{has_bytes, is_of_file_or_link};
-pub use directory::{entries, entries_of};
+pub use data_inode::{has_bytes, is_of_file_or_link, is_valid_dinode};
+pub use directory::{entries, entries_in, entries_of};
 pub use fault::{DirFault, PathFault};
 pub use file_bytes::{part_of_file, read_bytes};
 pub use inode_reading::{InodeReading, sound_inode_in};
@@ -34,6 +34,6 @@ pub use kinds::{is_of_directory, is_of_file};
 pub use names::{look_up, system_file};
 pub use o2_model::{Entries, Entry};
 pub use own_inodes::is_dot_entry;
-pub use path_step::{is_directory_at, is_valid_at};
+pub use path_step::is_directory_at;
 pub use path_text::{PathText, is_path};
 pub use route::path;

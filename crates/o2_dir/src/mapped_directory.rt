@@ -1,15 +1,14 @@
 // A directory whose entries stand in its blocks.
-ghost use Rattle.std.specs.Prelude.{◌≡◌, ◌≤◌, ◌/◌, ◌%◌, ◌==◌, ◌&&◌, nat_lt, length, ℕ, IfOk, IsErrOf, Some};
+ghost use Rattle.std.specs.Prelude.{◌≡◌, ◌≤◌, ◌/◌, ◌%◌, ◌==◌, ◌&&◌, nat_lt, length, ℕ, IfOk};
 ghost use Rattle.std.specs.Result.{IfErr};
-ghost use Rattle.o2_disk.specs.Image.{Image};
-ghost use Rattle.o2_disk.specs.Device.{Rose};
-ghost use Rattle.o2_view.specs.Views.{view_state};
+ghost use Rattle.o2_view.specs.Views.{Shows, OnlyReads};
+ghost use Rattle.o2_view.specs.Geos.{LiesIn, HasSizes};
+ghost use Rattle.o2_view.specs.OwnChecks.{NoneFails};
 ghost use Rattle.o2_model.specs.Directories.{directory_entries};
 ghost use Rattle.o2_model.specs.Checks.InodeSize.{has_sound_size};
-ghost use Rattle.o2_extent.specs.Seen.{HasSizes, LiesIn, volume_seen};
-ghost use Rattle.o2_extent.specs.Reads.{OnlyReads};
+ghost use Rattle.o2_model.specs.Volume.{Volume};
 ghost use Rattle.o2_extent.specs.Readings.{Within};
-ghost use Rattle.o2_dir.specs.Fails.{FailsNone, FailsFirst, IsMapped};
+ghost use Rattle.o2_dir.specs.Fails.{DirFails, IsMapped, directory_checks};
 
 use crate::blocks::read_places;
 use crate::places::{Place, places_within};
@@ -39,7 +38,7 @@ pub fn has_directory_size(
 ) -> Result<bool, NoMemory>
     requires sizes { HasSizes geo.now }
     requires within { Within geo.now leaves.now }
-    ensures { IfOk result (λ has. (I : Image) (d : ℕ) → IsMapped (volume_seen geo.now I) d size leaves.now → has ≡ has_sound_size (volume_seen geo.now I) d) }
+    ensures { IfOk result (λ has. (v : Volume) (d : ℕ) → v.geo ≡ geo.now → IsMapped v d size leaves.now → has ≡ has_sound_size v d) }
 {
     let bytes = block_bytes(geo);
     let per_cluster = blocks_per_cluster(geo);
@@ -59,14 +58,10 @@ pub fn mapped<D: Disk, const N: usize>(
 ) -> Result<Entries, DirFault>
     requires geo { LiesIn geo.now view.old }
     requires within { Within geo.now leaves.now }
-    requires is { (I : Image) → (view_state view.old).content ≡ Some I → IsMapped (volume_seen geo.now I) inode size leaves.now }
-    ensures entries { IfOk result (λ entries. (I : Image) → (view_state view.old).content ≡ Some I → entries ≡ directory_entries (volume_seen geo.now I) inode) }
-    ensures sound { IfOk result (λ _. (I : Image) → (view_state view.old).content ≡ Some I → FailsNone (volume_seen geo.now I) inode) }
-    ensures bad { IfErr result (λ fault. (check : Check) (b : ℕ) → fault ≡ DirFault.Bad check b → (I : Image) → (view_state view.old).content ≡ Some I
-        → FailsFirst (volume_seen geo.now I) inode check b) }
-    ensures present { IsErrOf result DirFault.Absent → ⊥ }
+    requires is { (v : Volume) → Shows view.old geo.now v → IsMapped v inode size leaves.now }
+    ensures told { IfOk result (λ entries. (v : Volume) → Shows view.old geo.now v → NoneFails (directory_checks inode) v × (entries ≡ directory_entries v inode)) }
     ensures reads { OnlyReads view.old view.new }
-    ensures fault { IsErrOf result DirFault.DeviceFault → Rose (view_state view.old).faults (view_state view.new).faults }
+    ensures fails { IfErr result (DirFails view.old view.new geo.now (directory_checks inode) ⊥) }
 {
     let bytes = block_bytes(geo);
     let per_cluster = blocks_per_cluster(geo);

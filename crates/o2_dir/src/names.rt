@@ -1,15 +1,13 @@
 // Entries by their names.
-ghost use Rattle.std.specs.Prelude.{◌≡◌, ◌^◌, ◌<◌, ◌≤◌, ℕ, length, true, option_map, find, Some, None, IfOk, IsErrOf};
+ghost use Rattle.std.specs.Prelude.{◌≡◌, ◌^◌, ◌≤◌, length, true, option_map, find, Some, IfOk};
 ghost use Rattle.std.specs.Result.{IfErr};
-ghost use Rattle.o2_disk.specs.Image.{Image};
-ghost use Rattle.o2_disk.specs.Device.{Rose};
-ghost use Rattle.o2_view.specs.Views.{view_state, view_blocks};
-ghost use Rattle.o2_model.specs.declared.check.Check.{Check};
+ghost use Rattle.o2_view.specs.Views.{Shows, OnlyReads};
+ghost use Rattle.o2_view.specs.Geos.{LiesIn, Reaches};
+ghost use Rattle.o2_view.specs.OwnChecks.{NoneFails};
 ghost use Rattle.o2_model.specs.Inodes.{is_directory};
 ghost use Rattle.o2_model.specs.Directories.{first_named, is_named};
-ghost use Rattle.o2_extent.specs.Seen.{LiesIn, volume_seen};
-ghost use Rattle.o2_extent.specs.Reads.{OnlyReads};
-ghost use Rattle.o2_dir.specs.Fails.{FailsNone, FailsFirst};
+ghost use Rattle.o2_model.specs.Volume.{Volume};
+ghost use Rattle.o2_dir.specs.Fails.{DirFails, HasNone, directory_checks};
 
 use crate::directory::entries_in;
 use crate::{DirFault, Entry};
@@ -42,19 +40,13 @@ pub fn look_up_in<D: Disk, const N: usize>(
     name: &[u8],
 ) -> Result<Entry, DirFault>
     requires geo { LiesIn geo.now view.old }
-    requires some { 0 < view_blocks view.old }
     requires size { length bytes.now ≡ 2 ^ geo.now.block_bits }
     requires long { 512 ≤ length bytes.now }
-    requires holds { (I : Image) → (view_state view.old).content ≡ Some I → bytes.now ≡ (volume_seen geo.now I).at inode }
-    requires directory { (I : Image) → (view_state view.old).content ≡ Some I → is_directory (volume_seen geo.now I) inode ≡ true }
-    ensures found { IfOk result (λ entry. (I : Image) → (view_state view.old).content ≡ Some I → first_named (volume_seen geo.now I) inode name.now ≡ Some entry) }
-    ensures sound { IfOk result (λ _. (I : Image) → (view_state view.old).content ≡ Some I → FailsNone (volume_seen geo.now I) inode) }
-    ensures absent { IsErrOf result DirFault.Absent → (I : Image) → (view_state view.old).content ≡ Some I
-        → FailsNone (volume_seen geo.now I) inode × (first_named (volume_seen geo.now I) inode name.now ≡ None) }
-    ensures bad { IfErr result (λ fault. (check : Check) (b : ℕ) → fault ≡ DirFault.Bad check b → (I : Image) → (view_state view.old).content ≡ Some I
-        → FailsFirst (volume_seen geo.now I) inode check b) }
+    requires holds { (v : Volume) → Shows view.old geo.now v → bytes.now ≡ v.at inode }
+    requires directory { (v : Volume) → Shows view.old geo.now v → is_directory v inode ≡ true }
+    ensures told { IfOk result (λ entry. (v : Volume) → Shows view.old geo.now v → NoneFails (directory_checks inode) v × (first_named v inode name.now ≡ Some entry)) }
     ensures reads { OnlyReads view.old view.new }
-    ensures fault { IsErrOf result DirFault.DeviceFault → Rose (view_state view.old).faults (view_state view.new).faults }
+    ensures fails { IfErr result (DirFails view.old view.new geo.now (directory_checks inode) (HasNone view.old geo.now inode name.now)) }
 {
     let all = entries_in(alloc, view, geo, inode, bytes)?.into_vec();
     match take_named(all, name) {
@@ -72,17 +64,11 @@ pub fn look_up<D: Disk, const N: usize>(
     inode: u64,
     name: &[u8],
 ) -> Result<Entry, DirFault>
-    requires geo { LiesIn geo.now view.old }
-    requires inode { inode < view_blocks view.old }
-    requires directory { (I : Image) → (view_state view.old).content ≡ Some I → is_directory (volume_seen geo.now I) inode ≡ true }
-    ensures found { IfOk result (λ entry. (I : Image) → (view_state view.old).content ≡ Some I → first_named (volume_seen geo.now I) inode name.now ≡ Some entry) }
-    ensures sound { IfOk result (λ _. (I : Image) → (view_state view.old).content ≡ Some I → FailsNone (volume_seen geo.now I) inode) }
-    ensures absent { IsErrOf result DirFault.Absent → (I : Image) → (view_state view.old).content ≡ Some I
-        → FailsNone (volume_seen geo.now I) inode × (first_named (volume_seen geo.now I) inode name.now ≡ None) }
-    ensures bad { IfErr result (λ fault. (check : Check) (b : ℕ) → fault ≡ DirFault.Bad check b → (I : Image) → (view_state view.old).content ≡ Some I
-        → FailsFirst (volume_seen geo.now I) inode check b) }
+    requires inode { Reaches geo.now view.old inode }
+    requires directory { (v : Volume) → Shows view.old geo.now v → is_directory v inode ≡ true }
+    ensures told { IfOk result (λ entry. (v : Volume) → Shows view.old geo.now v → NoneFails (directory_checks inode) v × (first_named v inode name.now ≡ Some entry)) }
     ensures reads { OnlyReads view.old view.new }
-    ensures fault { IsErrOf result DirFault.DeviceFault → Rose (view_state view.old).faults (view_state view.new).faults }
+    ensures fails { IfErr result (DirFails view.old view.new geo.now (directory_checks inode) (HasNone view.old geo.now inode name.now)) }
 {
     let block = look(view, geo, inode)?;
     look_up_in(alloc, view, geo, inode, block.as_slice(), name)
@@ -97,17 +83,11 @@ pub fn system_file<D: Disk, const N: usize>(
     name: &[u8],
 ) -> Result<u64, DirFault>
     requires geo { LiesIn geo.now view.old }
-    requires inode { geo.now.sysdir < view_blocks view.old }
-    requires directory { (I : Image) → (view_state view.old).content ≡ Some I → is_directory (volume_seen geo.now I) geo.now.sysdir ≡ true }
-    ensures found { IfOk result (λ inode. (I : Image) → (view_state view.old).content ≡ Some I
-        → option_map (λ e. e.inode) (first_named (volume_seen geo.now I) geo.now.sysdir name.now) ≡ Some inode) }
-    ensures sound { IfOk result (λ _. (I : Image) → (view_state view.old).content ≡ Some I → FailsNone (volume_seen geo.now I) geo.now.sysdir) }
-    ensures absent { IsErrOf result DirFault.Absent → (I : Image) → (view_state view.old).content ≡ Some I
-        → FailsNone (volume_seen geo.now I) geo.now.sysdir × (first_named (volume_seen geo.now I) geo.now.sysdir name.now ≡ None) }
-    ensures bad { IfErr result (λ fault. (check : Check) (b : ℕ) → fault ≡ DirFault.Bad check b → (I : Image) → (view_state view.old).content ≡ Some I
-        → FailsFirst (volume_seen geo.now I) geo.now.sysdir check b) }
+    requires directory { (v : Volume) → Shows view.old geo.now v → is_directory v geo.now.sysdir ≡ true }
+    ensures told { IfOk result (λ inode. (v : Volume) → Shows view.old geo.now v → NoneFails (directory_checks geo.now.sysdir) v
+        × (option_map (λ e. e.inode) (first_named v geo.now.sysdir name.now) ≡ Some inode)) }
     ensures reads { OnlyReads view.old view.new }
-    ensures fault { IsErrOf result DirFault.DeviceFault → Rose (view_state view.old).faults (view_state view.new).faults }
+    ensures fails { IfErr result (DirFails view.old view.new geo.now (directory_checks geo.now.sysdir) (HasNone view.old geo.now geo.now.sysdir name.now)) }
 {
     let entry = look_up(alloc, view, geo, geo.sysdir, name)?;
     Ok(entry.inode)

@@ -1,13 +1,13 @@
 // The volume's own inodes.
-ghost use Rattle.std.specs.Prelude.{◌≡◌, ◌<◌, ◌||◌, ◌&&◌, ◌==◌, not, map, filter, IfOk, IsErrOf, Some};
+ghost use Rattle.std.specs.Prelude.{◌≡◌, ◌||◌, ◌&&◌, ◌==◌, not, map, filter, IfOk};
 ghost use Rattle.std.specs.List.{list_any};
-ghost use Rattle.o2_disk.specs.Image.{Image};
-ghost use Rattle.o2_disk.specs.Device.{Rose};
-ghost use Rattle.o2_view.specs.Views.{view_state, view_blocks};
+ghost use Rattle.std.specs.Result.{IfErr};
+ghost use Rattle.o2_view.specs.Views.{Shows, OnlyReads};
+ghost use Rattle.o2_view.specs.Geos.{LiesIn};
+ghost use Rattle.o2_view.specs.OwnChecks.{BlockFails};
 ghost use Rattle.o2_model.specs.Words.{among};
 ghost use Rattle.o2_model.specs.Directories.{is_dot, own_inodes};
-ghost use Rattle.o2_extent.specs.Seen.{LiesIn, volume_seen};
-ghost use Rattle.o2_extent.specs.Reads.{OnlyReads};
+ghost use Rattle.o2_model.specs.Volume.{Volume};
 
 use crate::Entry;
 use crate::directory_blocks::read_blocks;
@@ -45,10 +45,9 @@ pub fn is_own<D: Disk, const N: usize>(
     inode: u64,
 ) -> Result<bool, ViewFault>
     requires geo { LiesIn geo.now view.old }
-    requires sysdir { geo.now.sysdir < view_blocks view.old }
-    ensures own { IfOk result (λ own. (I : Image) → (view_state view.old).content ≡ Some I → own ≡ among (own_inodes (volume_seen geo.now I)) inode) }
+    ensures own { IfOk result (λ own. (v : Volume) → Shows view.old geo.now v → own ≡ among (own_inodes v) inode) }
     ensures reads { OnlyReads view.old view.new }
-    ensures fault { IsErrOf result ViewFault.DeviceFault → Rose (view_state view.old).faults (view_state view.new).faults }
+    ensures fails { IfErr result (BlockFails view.old view.new) }
 {
     if inode == geo.sysdir {
         return Ok(true);

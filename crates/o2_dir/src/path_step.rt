@@ -1,17 +1,14 @@
 // One step of a path.
-ghost use Rattle.std.specs.Prelude.{◌≡◌, ◌^◌, ◌<◌, ◌≤◌, ℕ, length, true, false, Some, IfOk, IsErrOf};
+ghost use Rattle.std.specs.Prelude.{◌≡◌, ◌^◌, ◌<◌, ◌≤◌, length, true, false, IfOk};
 ghost use Rattle.std.specs.Option.{IfNone, IfSome};
 ghost use Rattle.std.specs.Result.{IfErr};
-ghost use Rattle.o2_disk.specs.Image.{Image};
-ghost use Rattle.o2_disk.specs.Device.{Rose};
-ghost use Rattle.o2_view.specs.Views.{view_state, view_blocks};
-ghost use Rattle.o2_model.specs.declared.check.Check.{Check};
-ghost use Rattle.o2_model.specs.Volume.{is_valid};
+ghost use Rattle.o2_view.specs.Views.{view_blocks, Shows, OnlyReads};
+ghost use Rattle.o2_view.specs.Geos.{LiesIn, Reaches};
+ghost use Rattle.o2_view.specs.OwnChecks.{BlockFails};
+ghost use Rattle.o2_model.specs.Volume.{is_valid, Volume};
 ghost use Rattle.o2_model.specs.Inodes.{is_directory};
 ghost use Rattle.o2_model.specs.declared.entry.Entry.{Entry};
-ghost use Rattle.o2_extent.specs.Seen.{LiesIn, volume_seen};
-ghost use Rattle.o2_extent.specs.Reads.{OnlyReads};
-ghost use Rattle.o2_dir.specs.Paths.{StepsTo, Lacks, FailsAt};
+ghost use Rattle.o2_dir.specs.Paths.{StepsTo, AtName, PathFails};
 
 use crate::PathFault;
 use crate::data_inode::is_valid_dinode;
@@ -31,11 +28,10 @@ pub fn is_directory_at<D: Disk, const N: usize>(
     geo: &Geo,
     inode: u64,
 ) -> Result<bool, ViewFault>
-    requires geo { LiesIn geo.now view.old }
-    requires inode { inode < view_blocks view.old }
-    ensures is { IfOk result (λ is. (I : Image) → (view_state view.old).content ≡ Some I → is ≡ is_directory (volume_seen geo.now I) inode) }
+    requires inode { Reaches geo.now view.old inode }
+    ensures is { IfOk result (λ is. (v : Volume) → Shows view.old geo.now v → is ≡ is_directory v inode) }
     ensures reads { OnlyReads view.old view.new }
-    ensures fault { IsErrOf result ViewFault.DeviceFault → Rose (view_state view.old).faults (view_state view.new).faults }
+    ensures fails { IfErr result (BlockFails view.old view.new) }
 {
     let block = look(view, geo, inode)?;
     Ok(is_of_directory(&read_dinode(block.as_slice())))
@@ -48,10 +44,10 @@ pub fn is_valid_at<D: Disk, const N: usize>(
     b: u64,
 ) -> Result<bool, ViewFault>
     requires geo { LiesIn geo.now view.old }
-    ensures is { IfOk result (λ is. (I : Image) → (view_state view.old).content ≡ Some I → is ≡ is_valid (volume_seen geo.now I) b) }
+    ensures is { IfOk result (λ is. (v : Volume) → Shows view.old geo.now v → is ≡ is_valid v b) }
     ensures inside { IfOk result (λ is. is ≡ true → b < view_blocks view.old) }
     ensures reads { OnlyReads view.old view.new }
-    ensures fault { IsErrOf result ViewFault.DeviceFault → Rose (view_state view.old).faults (view_state view.new).faults }
+    ensures fails { IfErr result (BlockFails view.old view.new) }
 {
     if volume_blocks(geo) <= b {
         return Ok(false);
@@ -67,15 +63,14 @@ fn directory_block<D: Disk, const N: usize>(
     geo: &Geo,
     inode: u64,
 ) -> Result<Option<Block>, ViewFault>
-    requires geo { LiesIn geo.now view.old }
-    requires inode { inode < view_blocks view.old }
-    ensures holds { IfOk result (λ found. IfSome found (λ block. (I : Image) → (view_state view.old).content ≡ Some I → block ≡ (volume_seen geo.now I).at inode)) }
-    ensures yes { IfOk result (λ found. IfSome found (λ _. (I : Image) → (view_state view.old).content ≡ Some I → is_directory (volume_seen geo.now I) inode ≡ true)) }
+    requires inode { Reaches geo.now view.old inode }
+    ensures holds { IfOk result (λ found. IfSome found (λ block. (v : Volume) → Shows view.old geo.now v → block ≡ v.at inode)) }
+    ensures yes { IfOk result (λ found. IfSome found (λ _. (v : Volume) → Shows view.old geo.now v → is_directory v inode ≡ true)) }
     ensures size { IfOk result (λ found. IfSome found (λ block. length block ≡ 2 ^ geo.now.block_bits)) }
     ensures long { IfOk result (λ found. IfSome found (λ block. 512 ≤ length block)) }
-    ensures no { IfOk result (λ found. IfNone found ((I : Image) → (view_state view.old).content ≡ Some I → is_directory (volume_seen geo.now I) inode ≡ false)) }
+    ensures no { IfOk result (λ found. IfNone found ((v : Volume) → Shows view.old geo.now v → is_directory v inode ≡ false)) }
     ensures reads { OnlyReads view.old view.new }
-    ensures fault { IsErrOf result ViewFault.DeviceFault → Rose (view_state view.old).faults (view_state view.new).faults }
+    ensures fails { IfErr result (BlockFails view.old view.new) }
 {
     let block = look(view, geo, inode)?;
     let dinode = read_dinode(block.as_slice());
@@ -86,6 +81,7 @@ fn directory_block<D: Disk, const N: usize>(
 }
 
 /// The inode that the name of a path leads to from the inode before.
+#[tactic(auto, using(o2_extent::proofs::Views::only_both))]
 pub fn step<D: Disk, const N: usize>(
     alloc: Global,
     view: &mut View<'_, D, N>,
@@ -93,16 +89,11 @@ pub fn step<D: Disk, const N: usize>(
     inode: u64,
     name: &[u8],
 ) -> Result<u64, PathFault>
-    requires geo { LiesIn geo.now view.old }
-    requires inode { inode < view_blocks view.old }
-    ensures to { IfOk result (λ i. (I : Image) → (view_state view.old).content ≡ Some I → (e : Entry) × StepsTo (volume_seen geo.now I) inode name.now e × (i ≡ e.inode)) }
+    requires inode { Reaches geo.now view.old inode }
+    ensures to { IfOk result (λ i. (v : Volume) → Shows view.old geo.now v → (e : Entry) × StepsTo v inode name.now e × (i ≡ e.inode)) }
     ensures inside { IfOk result (λ i. i < view_blocks view.old) }
-    ensures absent { IsErrOf result PathFault.Absent → (I : Image) → (view_state view.old).content ≡ Some I → Lacks (volume_seen geo.now I) inode name.now }
-    ensures kind { IsErrOf result PathFault.WrongKind → (I : Image) → (view_state view.old).content ≡ Some I → is_directory (volume_seen geo.now I) inode ≡ false }
-    ensures bad { IfErr result (λ fault. (check : Check) (b : ℕ) → fault ≡ PathFault.Bad check b → (I : Image) → (view_state view.old).content ≡ Some I
-        → FailsAt check b (volume_seen geo.now I) inode name.now) }
     ensures reads { OnlyReads view.old view.new }
-    ensures fault { IsErrOf result PathFault.DeviceFault → Rose (view_state view.old).faults (view_state view.new).faults }
+    ensures fails { IfErr result (PathFails view.old view.new (AtName view.old geo.now inode name.now)) }
 {
     let Some(block) = directory_block(view, geo, inode)? else {
         return Err(PathFault::WrongKind);

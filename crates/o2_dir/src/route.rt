@@ -1,14 +1,11 @@
 // Where a path leads.
-ghost use Rattle.std.specs.Prelude.{◌≡◌, ◌≢◌, ◌==◌, ◌<◌, ◌≤◌, ◌∷◌, drop, ℕ, List, length, true, false, Some, IfOk, IsErrOf};
+ghost use Rattle.std.specs.Prelude.{◌≡◌, ◌≢◌, ◌==◌, ◌<◌, ◌≤◌, ◌∷◌, drop, ℕ, List, length, true, false, IfOk};
 ghost use Rattle.std.specs.List.{position_or_len};
 ghost use Rattle.std.specs.Result.{IfErr};
-ghost use Rattle.o2_disk.specs.Image.{Image};
-ghost use Rattle.o2_disk.specs.Device.{Rose};
-ghost use Rattle.o2_view.specs.Views.{view_state, view_blocks};
-ghost use Rattle.o2_model.specs.declared.check.Check.{Check};
-ghost use Rattle.o2_extent.specs.Seen.{LiesIn, volume_seen};
-ghost use Rattle.o2_extent.specs.Reads.{OnlyReads};
-ghost use Rattle.o2_dir.specs.Paths.{AreNames, Begins, Leads, OnTheWay, Lacks, IsNoDirectory, FailsAt};
+ghost use Rattle.o2_view.specs.Views.{view_blocks, Shows, OnlyReads};
+ghost use Rattle.o2_view.specs.Geos.{LiesIn, Reaches};
+ghost use Rattle.o2_model.specs.Volume.{Volume};
+ghost use Rattle.o2_dir.specs.Paths.{AreNames, Begins, Leads, OnNames, OnPath, PathFails};
 
 use crate::PathFault;
 use crate::parts::behind;
@@ -39,18 +36,11 @@ fn follow<D: Disk, const N: usize>(
     start: u64,
     text: &[u8],
 ) -> Result<u64, PathFault>
-    requires geo { LiesIn geo.now view.old }
-    requires start { start < view_blocks view.old }
-    ensures leads { IfOk result (λ i. (I : Image) → (view_state view.old).content ≡ Some I → (names : List (List ℕ)) → AreNames text.now names → Leads (volume_seen geo.now I) start names i) }
+    requires start { Reaches geo.now view.old start }
+    ensures leads { IfOk result (λ i. (v : Volume) → Shows view.old geo.now v → (names : List (List ℕ)) → AreNames text.now names → Leads v start names i) }
     ensures inside { IfOk result (λ i. i < view_blocks view.old) }
-    ensures absent { IsErrOf result PathFault.Absent → (I : Image) → (view_state view.old).content ≡ Some I → (names : List (List ℕ)) → AreNames text.now names
-        → OnTheWay Lacks (volume_seen geo.now I) start names }
-    ensures kind { IsErrOf result PathFault.WrongKind → (I : Image) → (view_state view.old).content ≡ Some I → (names : List (List ℕ)) → AreNames text.now names
-        → OnTheWay IsNoDirectory (volume_seen geo.now I) start names }
-    ensures bad { IfErr result (λ fault. (check : Check) (b : ℕ) → fault ≡ PathFault.Bad check b → (I : Image) → (view_state view.old).content ≡ Some I
-        → (names : List (List ℕ)) → AreNames text.now names → OnTheWay (FailsAt check b) (volume_seen geo.now I) start names) }
     ensures reads { OnlyReads view.old view.new }
-    ensures fault { IsErrOf result PathFault.DeviceFault → Rose (view_state view.old).faults (view_state view.new).faults }
+    ensures fails { IfErr result (PathFails view.old view.new (OnNames view.old geo.now start text.now)) }
 {
     let mut inode = start;
     let mut rest = text;
@@ -87,19 +77,11 @@ pub fn path<D: Disk, const N: usize>(
     text: &[u8],
 ) -> Result<u64, PathFault>
     requires geo { LiesIn geo.now view.old }
-    requires root { geo.now.root < view_blocks view.old }
-    requires sysdir { geo.now.sysdir < view_blocks view.old }
-    ensures leads { IfOk result (λ i. (I : Image) → (view_state view.old).content ≡ Some I → (start : ℕ) (names : List (List ℕ)) → Begins geo.now text.now start names
-        → Leads (volume_seen geo.now I) start names i) }
+    ensures leads { IfOk result (λ i. (v : Volume) → Shows view.old geo.now v → (start : ℕ) (names : List (List ℕ)) → Begins geo.now text.now start names
+        → Leads v start names i) }
     ensures inside { IfOk result (λ i. i < view_blocks view.old) }
-    ensures absent { IsErrOf result PathFault.Absent → (I : Image) → (view_state view.old).content ≡ Some I → (start : ℕ) (names : List (List ℕ)) → Begins geo.now text.now start names
-        → OnTheWay Lacks (volume_seen geo.now I) start names }
-    ensures kind { IsErrOf result PathFault.WrongKind → (I : Image) → (view_state view.old).content ≡ Some I → (start : ℕ) (names : List (List ℕ)) → Begins geo.now text.now start names
-        → OnTheWay IsNoDirectory (volume_seen geo.now I) start names }
-    ensures bad { IfErr result (λ fault. (check : Check) (b : ℕ) → fault ≡ PathFault.Bad check b → (I : Image) → (view_state view.old).content ≡ Some I
-        → (start : ℕ) (names : List (List ℕ)) → Begins geo.now text.now start names → OnTheWay (FailsAt check b) (volume_seen geo.now I) start names) }
     ensures reads { OnlyReads view.old view.new }
-    ensures fault { IsErrOf result PathFault.DeviceFault → Rose (view_state view.old).faults (view_state view.new).faults }
+    ensures fails { IfErr result (PathFails view.old view.new (OnPath view.old geo.now text.now)) }
 {
     if begins_at_system_directory(text) {
         return follow(alloc, view, geo, geo.sysdir, behind(text, 2));

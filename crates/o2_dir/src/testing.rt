@@ -1,6 +1,6 @@
 // A small volume, by hand.
-ghost use Rattle.std.specs.Prelude.{◌≡◌, ◌+◌, ◌-◌, ◌*◌, ◌^◌, ◌≤◌, length};
-ghost use Rattle.o2_extent.specs.Seen.{HasSizes};
+ghost use Rattle.std.specs.Prelude.{◌≡◌, ◌+◌, ◌≤◌, length};
+ghost use Rattle.o2_view.specs.Geos.{HasSizes, HasNumbers, blocks_of};
 
 use o2_ondisk::{
     Dinode, DirEntry, DxSeed, DynFeatures, ExtentRec, ExtentSize, InodeFlags, Signature,
@@ -12,9 +12,8 @@ use o2_view::Geo;
 pub fn numbers() -> Geo
     ensures sizes { HasSizes result }
     ensures bits { result.block_bits ≡ 10 }
-    ensures blocks { result.clusters * 2 ^ (result.cluster_bits - result.block_bits) ≡ 160 }
-    ensures root { result.root ≡ 5 }
-    ensures sysdir { result.sysdir ≡ 6 }
+    ensures numbers { HasNumbers result }
+    ensures blocks { blocks_of result ≡ 160 }
 {
     Geo {
         block_bits: 10,

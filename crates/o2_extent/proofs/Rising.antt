@@ -8,6 +8,7 @@ use Rattle.o2_model.specs.declared.leaf.Leaf.{Leaf}
 use Rattle.o2_model.specs.Words.{push}
 use Rattle.o2_model.specs.Volume.{Volume}
 use Rattle.o2_model.specs.Extents.{Extents, leaf_clusters, with_leaf, with_seen, leaf_of, end_of, is_sound_header, is_extent_block, is_sound_leaf, names_new_block, with_met, list_in_block, most_in_block, records_in_block, read_records, nothing_read, extent_list}
+use Rattle.o2_model.specs.Extents.LeafRule.{ToClusters}
 use Rattle.o2_model.specs.Inodes.{extents, has_list, most_flags, most_in_dinode, leaf_records}
 use Rattle.o2_extent.specs.Rising.{RiseFrom, AreRising}
 
@@ -28,7 +29,7 @@ met_leaves v b t = elim (cases_Bool (is_sound_header (most_in_block v) (list_in_
 ]
 
 -- ---- all that are read
-reading_rises : (v : Volume) (m depth holder low : ℕ) (rs : List ExtentRec) (t : Extents) → AreRising t.leaves → AreRising (read_records v m depth holder low rs t).leaves
+reading_rises : (v : Volume) (m depth holder low : ℕ) (rs : List ExtentRec) (t : Extents) → AreRising t.leaves → AreRising (read_records v (ToClusters m) depth holder low rs t).leaves
 reading_rises v m depth holder low [] t h = h
 reading_rises v m zero holder low (r ∷ rs) t h =
     elim (cases_Bool (leaf_clusters r == 0)) [

@@ -8,7 +8,7 @@ use Rattle.o2_model.specs.Clusters.{are_clusters_in_range}
 use Rattle.o2_model.specs.Extents.{is_sound_leaf}
 use Rattle.o2_model.specs.declared.geo.Geo.{Geo}
 use Rattle.o2_model.specs.declared.leaf.Leaf.{Leaf}
-use Rattle.o2_extent.specs.Seen.{HasSizes}
+use Rattle.o2_view.specs.Geos.{HasSizes}
 
 module _ (geo : Geo) (h : HasSizes geo) where
   pub few_per_cluster : 2 ^ (geo.cluster_bits - geo.block_bits) ≤ 2048

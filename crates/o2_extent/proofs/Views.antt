@@ -1,12 +1,11 @@
 -- Calls that only read, one after the other.
-use Rattle.std.proofs.Common.{ℕ, List, refl, sym, ◌∙◌, arith}
+use Rattle.std.proofs.Common.{ℕ, ◌<◌, List, refl, sym, ◌∙◌, arith}
 use Rattle.o2_disk.specs.declared.disk.Disk as disk
 use Rattle.o2_disk.proofs.Moments.{reads_none, reads_both}
 use Rattle.o2_model.specs.declared.geo.Geo.{Geo}
-use Rattle.o2_view.specs.Views.{view_state}
+use Rattle.o2_view.specs.Geos.{LiesIn}
+use Rattle.o2_view.specs.Views.{view_state, view_blocks, OnlyReads}
 use Rattle.o2_view.specs.declared.view.View.{View}
-use Rattle.o2_extent.specs.Seen.{LiesIn}
-use Rattle.o2_extent.specs.Reads.{OnlyReads}
 use Rattle.o2_extent.specs.Readings.{LooksAtMost}
 
 module _ {D : Type 0} {N : ℕ} {g : disk.Ghosts D} where
@@ -14,7 +13,7 @@ module _ {D : Type 0} {N : ℕ} {g : disk.Ghosts D} where
   only_none view = record {
     reads = reads_none (view_state view);
     device = record { attaches = refl; attached = refl; sectors = refl };
-    same = record { bits = refl; blocks = refl; disk = refl };
+    same = record { bits = refl; blocks = refl; disk = refl; plan = refl; changed = λ b. refl };
     later = omega arith;
   }
 
@@ -26,12 +25,22 @@ module _ {D : Type 0} {N : ℕ} {g : disk.Ghosts D} where
       attached = b.device.attached ∙ a.device.attached;
       sectors = b.device.sectors ∙ a.device.sectors;
     };
-    same = record { bits = b.same.bits ∙ a.same.bits; blocks = b.same.blocks ∙ a.same.blocks; disk = b.same.disk ∙ a.same.disk };
+    same = record {
+      bits = b.same.bits ∙ a.same.bits;
+      blocks = b.same.blocks ∙ a.same.blocks;
+      disk = b.same.disk ∙ a.same.disk;
+      plan = b.same.plan ∙ a.same.plan;
+      changed = λ c. b.same.changed c ∙ a.same.changed c;
+    };
     later = omega (arith, a.later, b.later);
   }
 
   pub still_in : {geo : Geo} {old new : View D N g} → LiesIn geo old → OnlyReads old new → LiesIn geo new
-  still_in {geo} {old} {new} h only = record { sizes = h.sizes; bits = h.bits ∙ sym only.same.bits; within = omega (arith, h.within, only.same.blocks) }
+  still_in {geo} {old} {new} h only = record { sizes = h.sizes; numbers = h.numbers; bits = h.bits ∙ sym only.same.bits; within = omega (arith, h.within, only.same.blocks) }
+
+  -- a volume's view has a block, that of the root directory
+  pub some_blocks : {geo : Geo} {view : View D N g} → LiesIn geo view → 0 < view_blocks view
+  some_blocks {geo} {view} h = omega (arith, h.numbers.root, h.within)
 
   pub looks_none : (seen : List ℕ) (view : View D N g) → LooksAtMost seen seen view view
   looks_none seen view = record { grew = omega arith; calls = λ I told. omega arith }

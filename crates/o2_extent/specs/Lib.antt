@@ -1,5 +1,3 @@
-pub mod Seen
-pub mod Reads
 pub mod Readings
 pub mod Maps
 pub mod Rising

@@ -1,8 +1,8 @@
 // Sizes and ranges by the numbers of a volume.
 ghost use Rattle.std.specs.Prelude.{◌≡◌, ◌-◌, ◌*◌, ◌^◌, ◌<◌, ◌≤◌, nat_lt, ◌&&◌};
-ghost use Rattle.o2_disk.specs.Image.{Image};
 ghost use Rattle.o2_model.specs.Clusters.{are_clusters_in_range};
-ghost use Rattle.o2_extent.specs.Seen.{HasSizes, volume_seen};
+ghost use Rattle.o2_model.specs.Volume.{Volume};
+ghost use Rattle.o2_view.specs.Geos.{HasSizes, blocks_of};
 
 use o2_model::Geo;
 
@@ -29,7 +29,7 @@ pub fn block_bytes(geo: &Geo) -> u64
 /// How many blocks the volume has.
 pub fn volume_blocks(geo: &Geo) -> u64
     requires { HasSizes geo.now }
-    ensures blocks { result ≡ geo.now.clusters * 2 ^ (geo.now.cluster_bits - geo.now.block_bits) }
+    ensures blocks { result ≡ blocks_of geo.now }
     ensures fits { result < 2 ^ 64 }
 {
     let _clusters = geo.clusters;
@@ -39,7 +39,7 @@ pub fn volume_blocks(geo: &Geo) -> u64
 /// Whether a structure can be in the block.
 pub fn is_block_in_range(geo: &Geo, b: u64) -> bool
     requires { HasSizes geo.now }
-    ensures { result ≡ (nat_lt 0 b && nat_lt b (geo.now.clusters * 2 ^ (geo.now.cluster_bits - geo.now.block_bits))) }
+    ensures { result ≡ (nat_lt 0 b && nat_lt b (blocks_of geo.now)) }
 {
     let blocks = volume_blocks(geo);
     0 < b && b < blocks
@@ -49,7 +49,7 @@ pub fn is_block_in_range(geo: &Geo, b: u64) -> bool
 #[tactic(auto, unfolding(o2_model::specs::Clusters::are_clusters_in_range))]
 pub fn are_whole_clusters_in_range(geo: &Geo, b: u64, count: u64) -> bool
     requires { HasSizes geo.now }
-    ensures { (I : Image) → result ≡ are_clusters_in_range (volume_seen geo.now I) b count }
+    ensures { (v : Volume) → v.geo ≡ geo.now → result ≡ are_clusters_in_range v b count }
 {
     let per_cluster = blocks_per_cluster(geo);
     let clusters = u64::from(geo.clusters);

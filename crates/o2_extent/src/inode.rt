@@ -1,15 +1,15 @@
 // An inode with its extents.
-ghost use Rattle.std.specs.Prelude.{◌≡◌, ◌+◌, ◌^◌, ◌≤◌, ◌<◌, length, Some, IfOk, IsErrOf};
+ghost use Rattle.std.specs.Prelude.{◌≡◌, ◌+◌, ◌^◌, ◌≤◌, length, Some, IfOk};
+ghost use Rattle.std.specs.Result.{IfErr};
 ghost use Rattle.o2_ondisk.specs.Dinodes.{last_part_place};
-ghost use Rattle.o2_disk.specs.Image.{Image, block_at};
-ghost use Rattle.o2_disk.specs.Device.{Rose};
-ghost use Rattle.o2_view.specs.Counted.{CallsAtMost};
-ghost use Rattle.o2_view.specs.Views.{view_state, view_blocks};
-ghost use Rattle.o2_model.specs.Words.{Apart};
+ghost use Rattle.o2_view.specs.OwnChecks.{BlockFails};
+ghost use Rattle.o2_view.specs.Counted.{CallsAtMost, CallsBut};
+ghost use Rattle.o2_view.specs.Views.{view_state, view_blocks, Shows, OnlyReads};
 ghost use Rattle.o2_model.specs.Extents.{read_list};
+ghost use Rattle.o2_model.specs.Extents.LeafRule.{ToClusters};
 ghost use Rattle.o2_model.specs.Inodes.{extents, most_in_dinode};
-ghost use Rattle.o2_extent.specs.Seen.{LiesIn, volume_seen};
-ghost use Rattle.o2_extent.specs.Reads.{OnlyReads};
+ghost use Rattle.o2_model.specs.Volume.{Volume};
+ghost use Rattle.o2_view.specs.Geos.{LiesIn, Reaches};
 ghost use Rattle.o2_extent.specs.Readings.{Keeps, Within};
 
 use crate::dinode::{flags_allowed, has_list};
@@ -31,6 +31,7 @@ pub struct Inode {
 }
 
 /// Reads the list in a dinode of these bytes.
+#[tactic(auto, using(crate::proofs::Sizes::some_bytes))]
 fn read_dinode_list<D: Disk, const N: usize>(
     alloc: Global,
     view: &mut View<'_, D, N>,
@@ -40,15 +41,14 @@ fn read_dinode_list<D: Disk, const N: usize>(
     bytes: &[u8],
 ) -> Result<Reading, ViewFault>
     requires geo { LiesIn geo.now view.old }
-    requires some { 0 < view_blocks view.old }
     requires size { length bytes.now ≡ 2 ^ geo.now.block_bits }
-    requires long { 512 ≤ length bytes.now }
-    ensures read { IfOk result (λ reading. (I : Image) → (view_state view.old).content ≡ Some I → bytes.now ≡ block_at (2 ^ geo.now.block_bits) I owner
-        → Keeps reading (read_list (volume_seen geo.now I) most_flags owner last_part_place (most_in_dinode (volume_seen geo.now I)))) }
+    requires holds { (v : Volume) → Shows view.old geo.now v → bytes.now ≡ v.at owner }
+    ensures read { IfOk result (λ reading. (v : Volume) → Shows view.old geo.now v
+        → Keeps reading (read_list v (ToClusters most_flags) owner last_part_place (most_in_dinode v))) }
     ensures within { IfOk result (λ reading. Within geo.now reading.leaves.items) }
-    ensures count { (I : Image) → (view_state view.old).content ≡ Some I → (view_state view.new).moment + 1 ≤ (view_state view.old).moment + view_blocks view.old }
+    ensures count { CallsBut 1 (view_blocks view.old) (view_state view.old) (view_state view.new) }
     ensures reads { OnlyReads view.old view.new }
-    ensures fault { IsErrOf result ViewFault.DeviceFault → Rose (view_state view.old).faults (view_state view.new).faults }
+    ensures fails { IfErr result (BlockFails view.old view.new) }
 {
     let mut reading = start(alloc);
     let header = header_at(bytes, 0xc0);
@@ -71,7 +71,7 @@ fn read_dinode_list<D: Disk, const N: usize>(
 }
 
 /// Reads the list of a dinode of these bytes, where it has one.
-#[tactic(auto, unfolding(o2_model::specs::Inodes::extents, o2_model::specs::Inodes::is_directory))]
+#[tactic(auto, using(crate::proofs::Sizes::some_bytes), unfolding(o2_model::specs::Inodes::extents, o2_model::specs::Inodes::is_directory))]
 pub fn read_own_list<D: Disk, const N: usize>(
     alloc: Global,
     view: &mut View<'_, D, N>,
@@ -80,15 +80,13 @@ pub fn read_own_list<D: Disk, const N: usize>(
     bytes: &[u8],
 ) -> Result<Reading, ViewFault>
     requires geo { LiesIn geo.now view.old }
-    requires some { 0 < view_blocks view.old }
     requires size { length bytes.now ≡ 2 ^ geo.now.block_bits }
-    requires long { 512 ≤ length bytes.now }
-    ensures read { IfOk result (λ reading. (I : Image) → (view_state view.old).content ≡ Some I → bytes.now ≡ block_at (2 ^ geo.now.block_bits) I owner
-        → Keeps reading (extents (volume_seen geo.now I) owner)) }
+    requires holds { (v : Volume) → Shows view.old geo.now v → bytes.now ≡ v.at owner }
+    ensures read { IfOk result (λ reading. (v : Volume) → Shows view.old geo.now v → Keeps reading (extents v owner)) }
     ensures within { IfOk result (λ reading. Within geo.now reading.leaves.items) }
-    ensures count { (I : Image) → (view_state view.old).content ≡ Some I → (view_state view.new).moment + 1 ≤ (view_state view.old).moment + view_blocks view.old }
+    ensures count { CallsBut 1 (view_blocks view.old) (view_state view.old) (view_state view.new) }
     ensures reads { OnlyReads view.old view.new }
-    ensures fault { IsErrOf result ViewFault.DeviceFault → Rose (view_state view.old).faults (view_state view.new).faults }
+    ensures fails { IfErr result (BlockFails view.old view.new) }
 {
     let dinode = read_dinode(bytes);
     if !has_list(&dinode) {
@@ -104,16 +102,15 @@ pub fn read_inode<D: Disk, const N: usize>(
     geo: &Geo,
     owner: u64,
 ) -> Result<Inode, ViewFault>
-    requires geo { LiesIn geo.now view.old }
-    requires owner { owner < view_blocks view.old }
-    ensures block { IfOk result (λ inode. (I : Image) → (view_state view.old).content ≡ Some I → inode.block ≡ block_at (2 ^ geo.now.block_bits) I owner) }
+    requires { Reaches geo.now view.old owner }
+    ensures block { IfOk result (λ inode. (v : Volume) → Shows view.old geo.now v → inode.block ≡ v.at owner) }
     ensures size { IfOk result (λ inode. length inode.block ≡ 2 ^ geo.now.block_bits) }
     ensures long { IfOk result (λ inode. 512 ≤ length inode.block) }
-    ensures read { IfOk result (λ inode. (I : Image) → (view_state view.old).content ≡ Some I → Keeps inode.reading (extents (volume_seen geo.now I) owner)) }
+    ensures read { IfOk result (λ inode. (v : Volume) → Shows view.old geo.now v → Keeps inode.reading (extents v owner)) }
     ensures within { IfOk result (λ inode. Within geo.now inode.reading.leaves.items) }
     ensures count { CallsAtMost (view_blocks view.old) (view_state view.old) (view_state view.new) }
     ensures reads { OnlyReads view.old view.new }
-    ensures fault { IsErrOf result ViewFault.DeviceFault → Rose (view_state view.old).faults (view_state view.new).faults }
+    ensures fails { IfErr result (BlockFails view.old view.new) }
 {
     let block = look(view, geo, owner)?;
     let reading = read_own_list(alloc, view, geo, owner, block.as_slice())?;

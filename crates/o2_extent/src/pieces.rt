@@ -1,13 +1,13 @@
 // The bytes of a file, block by block.
-ghost use Rattle.std.specs.Prelude.{◌≡◌, ◌+◌, ◌-◌, ◌*◌, ◌^◌, ◌<◌, ◌≤◌, ◌++◌, map, length, replicate, OnOk, IsErrOf, Some};
+ghost use Rattle.std.specs.Prelude.{◌≡◌, ◌+◌, ◌-◌, ◌*◌, ◌^◌, ◌<◌, ◌≤◌, ◌++◌, map, length, replicate, OnOk};
 ghost use Rattle.std.specs.List.{range_with_len};
 ghost use Rattle.std.specs.Option.{IfSome};
-ghost use Rattle.o2_disk.specs.Image.{Image};
-ghost use Rattle.o2_disk.specs.Device.{Rose};
-ghost use Rattle.o2_view.specs.Views.{view_state};
-ghost use Rattle.o2_model.specs.Contents.{maps_cluster, byte_of};
-ghost use Rattle.o2_extent.specs.Seen.{HasSizes, LiesIn, volume_seen};
-ghost use Rattle.o2_extent.specs.Reads.{OnlyReads};
+ghost use Rattle.std.specs.Result.{IfErr};
+ghost use Rattle.o2_model.specs.Contents.{byte_of};
+ghost use Rattle.o2_model.specs.Volume.{Volume};
+ghost use Rattle.o2_view.specs.Geos.{HasSizes, LiesIn, blocks_of};
+ghost use Rattle.o2_view.specs.OwnChecks.{BlockFails};
+ghost use Rattle.o2_view.specs.Views.{Shows, OnlyReads};
 ghost use Rattle.o2_extent.specs.Readings.{Within};
 ghost use Rattle.o2_extent.specs.Maps.{written_at, piece_byte};
 ghost use Rattle.o2_extent.specs.Rising.{AreRising};
@@ -26,7 +26,7 @@ fn written_block(geo: &Geo, leaves: &[Leaf], j: u64) -> Option<u64>
     requires sizes { HasSizes geo.now }
     requires within { Within geo.now leaves.now }
     ensures block { AreRising leaves.now → result ≡ written_at (2 ^ (geo.now.cluster_bits - geo.now.block_bits)) j leaves.now }
-    ensures inside { IfSome result (λ b. b < geo.now.clusters * 2 ^ (geo.now.cluster_bits - geo.now.block_bits)) }
+    ensures inside { IfSome result (λ b. b < blocks_of geo.now) }
 {
     let _blocks = volume_blocks(geo);
     let per_cluster = blocks_per_cluster(geo);
@@ -77,11 +77,11 @@ fn add_piece<D: Disk, const N: usize>(
     requires geo { LiesIn geo.now view.old }
     requires within { Within geo.now leaves.now }
     requires inside { from + count ≤ 2 ^ geo.now.block_bits }
-    ensures bytes { OnOk result ((I : Image) → (view_state view.old).content ≡ Some I → AreRising leaves.now
-        → out.new.items ≡ out.old.items ++ map (piece_byte (volume_seen geo.now I) leaves.now j) (range_with_len from count)) }
+    ensures bytes { OnOk result ((v : Volume) → Shows view.old geo.now v → AreRising leaves.now
+        → out.new.items ≡ out.old.items ++ map (piece_byte v leaves.now j) (range_with_len from count)) }
     ensures long { OnOk result (length out.new.items ≡ length out.old.items + count) }
     ensures reads { OnlyReads view.old view.new }
-    ensures fault { IsErrOf result ViewFault.DeviceFault → Rose (view_state view.old).faults (view_state view.new).faults }
+    ensures fails { IfErr result (BlockFails view.old view.new) }
 {
     match written_block(geo, leaves, j) {
         Some(b) => {
@@ -105,10 +105,10 @@ pub fn add_bytes<D: Disk, const N: usize>(
     requires geo { LiesIn geo.now view.old }
     requires within { Within geo.now leaves.now }
     requires order { at ≤ end }
-    ensures bytes { OnOk result ((I : Image) → (view_state view.old).content ≡ Some I → AreRising leaves.now
-        → out.new.items ≡ out.old.items ++ map (byte_of (volume_seen geo.now I) leaves.now) (range_with_len at (end - at))) }
+    ensures bytes { OnOk result ((v : Volume) → Shows view.old geo.now v → AreRising leaves.now
+        → out.new.items ≡ out.old.items ++ map (byte_of v leaves.now) (range_with_len at (end - at))) }
     ensures reads { OnlyReads view.old view.new }
-    ensures fault { IsErrOf result ViewFault.DeviceFault → Rose (view_state view.old).faults (view_state view.new).faults }
+    ensures fails { IfErr result (BlockFails view.old view.new) }
 {
     let size = block_bytes(geo);
     let mut next = at;

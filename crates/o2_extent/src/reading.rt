@@ -1,9 +1,9 @@
 // What was read of a tree so far.
 ghost use Rattle.std.specs.Prelude.{◌≡◌, [], OnOk, is_ok, if◌then◌else◌};
-ghost use Rattle.o2_disk.specs.Image.{Image};
 ghost use Rattle.o2_model.specs.Words.{among, push};
 ghost use Rattle.o2_model.specs.Extents.{Extents, leaf_of, is_sound_leaf, with_leaf, with_seen, with_fault, nothing_read};
-ghost use Rattle.o2_extent.specs.Seen.{HasSizes, volume_seen};
+ghost use Rattle.o2_model.specs.Volume.{Volume};
+ghost use Rattle.o2_view.specs.Geos.{HasSizes};
 ghost use Rattle.o2_extent.specs.Readings.{Keeps};
 
 use crate::Leaf;
@@ -82,7 +82,7 @@ pub fn has_seen(reading: &Reading, b: u64) -> bool
 #[tactic(auto, unfolding(o2_model::specs::Extents::is_sound_leaf))]
 pub fn is_sound_record(geo: &Geo, most_flags: u8, low: u64, r: &ExtentRec) -> bool
     requires { HasSizes geo.now }
-    ensures { (I : Image) → result ≡ is_sound_leaf (volume_seen geo.now I) most_flags low (leaf_of r.now) }
+    ensures { (v : Volume) → v.geo ≡ geo.now → result ≡ is_sound_leaf v most_flags low (leaf_of r.now) }
 {
     let cpos = u64::from(r.cpos);
     let clusters = u64::from(r.size.leaf_clusters());

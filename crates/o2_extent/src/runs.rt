@@ -1,6 +1,6 @@
 // Few records, without a vector on the heap.
 ghost use Rattle.std.specs.Prelude.{◌≡◌, ◌≤◌, ◌-◌, ◌^◌, All, length};
-ghost use Rattle.o2_extent.specs.Seen.{HasSizes};
+ghost use Rattle.o2_view.specs.Geos.{HasSizes};
 ghost use Rattle.o2_extent.specs.Maps.{IsRun, leaves_of};
 
 use crate::Leaf;

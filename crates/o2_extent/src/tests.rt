@@ -1,6 +1,6 @@
 // Each call once, on a disk in memory.
-ghost use Rattle.std.specs.Prelude.{◌≡◌, ◌+◌, ◌-◌, ◌*◌, ◌^◌, ◌≤◌, length, IfOk};
-ghost use Rattle.o2_extent.specs.Seen.{HasSizes};
+ghost use Rattle.std.specs.Prelude.{◌≡◌, ◌+◌, ◌≤◌, length, IfOk};
+ghost use Rattle.o2_view.specs.Geos.{HasSizes, HasNumbers, blocks_of};
 ghost use Rattle.o2_extent.specs.Maps.{AreNumbered};
 
 use crate::{Leaf, Leaves, list_of_runs, map_cluster, records};
@@ -17,7 +17,8 @@ use std::test::Fail;
 fn numbers() -> Geo
     ensures sizes { HasSizes result }
     ensures bits { result.block_bits ≡ 10 }
-    ensures blocks { result.clusters * 2 ^ (result.cluster_bits - result.block_bits) ≡ 160 }
+    ensures numbers { HasNumbers result }
+    ensures blocks { blocks_of result ≡ 160 }
     ensures clusters { result.clusters ≡ 40 }
 {
     Geo {

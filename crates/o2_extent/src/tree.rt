@@ -1,15 +1,16 @@
 // The tree of extents under a list.
-ghost use Rattle.std.specs.Prelude.{◌≡◌, ◌+◌, ◌-◌, ◌*◌, ◌^◌, ◌≤◌, ◌<◌, ◌∷◌, ℕ, List, length, Some, true, false, OnOk, IfOk, IsErrOf};
+ghost use Rattle.std.specs.Prelude.{◌≡◌, ◌+◌, ◌-◌, ◌^◌, ◌≤◌, ◌<◌, ◌∷◌, ℕ, List, length, Some, true, false, OnOk, IfOk};
 ghost use Rattle.std.specs.Option.{IfNone, IfSome};
-ghost use Rattle.o2_disk.specs.Image.{Image, block_at};
-ghost use Rattle.o2_disk.specs.Device.{Rose};
+ghost use Rattle.std.specs.Result.{IfErr};
+ghost use Rattle.o2_view.specs.OwnChecks.{BlockFails};
 ghost use Rattle.o2_view.specs.Counted.{CallsAtMost};
-ghost use Rattle.o2_view.specs.Views.{view_state, view_blocks};
+ghost use Rattle.o2_view.specs.Views.{view_state, view_blocks, Shows, OnlyReads};
 ghost use Rattle.o2_ondisk.specs.declared.extent_rec.ExtentRec.{ExtentRec as Record};
 ghost use Rattle.o2_model.specs.Words.{Apart};
 ghost use Rattle.o2_model.specs.Extents.{Extents, is_extent_block, names_new_block, with_met, records_in_block, read_records};
-ghost use Rattle.o2_extent.specs.Seen.{HasSizes, LiesIn, volume_seen};
-ghost use Rattle.o2_extent.specs.Reads.{OnlyReads};
+ghost use Rattle.o2_model.specs.Extents.LeafRule.{ToClusters};
+ghost use Rattle.o2_model.specs.Volume.{Volume};
+ghost use Rattle.o2_view.specs.Geos.{HasSizes, LiesIn, Reaches};
 ghost use Rattle.o2_extent.specs.Readings.{Keeps, Within, GoesOn, Stops, Enters, LooksAtMost};
 
 use crate::geometry::{block_bytes, is_block_in_range};
@@ -29,8 +30,8 @@ fn read_leaf(
     reading: &mut Reading,
 ) -> Result<bool, NoMemory>
     requires { HasSizes geo.now }
-    ensures good { IfOk result (λ good. good ≡ true → (I : Image) (t : Extents) → Keeps reading.old t → GoesOn (volume_seen geo.now I) most_flags t r.now reading.new) }
-    ensures bad { IfOk result (λ good. good ≡ false → (I : Image) (t : Extents) → Keeps reading.old t → Stops (volume_seen geo.now I) most_flags t r.now reading.new) }
+    ensures good { IfOk result (λ good. good ≡ true → (v : Volume) → v.geo ≡ geo.now → (t : Extents) → Keeps reading.old t → GoesOn v most_flags t r.now reading.new) }
+    ensures bad { IfOk result (λ good. good ≡ false → (v : Volume) → v.geo ≡ geo.now → (t : Extents) → Keeps reading.old t → Stops v most_flags t r.now reading.new) }
     ensures seen { reading.new.seen ≡ reading.old.seen }
     ensures within { Within geo.now reading.old.leaves.items → Within geo.now reading.new.leaves.items }
 {
@@ -53,8 +54,8 @@ fn read_leaves(
     reading: &mut Reading,
 ) -> Result<(), NoMemory>
     requires { HasSizes geo.now }
-    ensures read { OnOk result ((I : Image) (t : Extents) → Keeps reading.old t
-        → Keeps reading.new (read_records (volume_seen geo.now I) most_flags 0 holder 0 records.now t)) }
+    ensures read { OnOk result ((v : Volume) → v.geo ≡ geo.now → (t : Extents) → Keeps reading.old t
+        → Keeps reading.new (read_records v (ToClusters most_flags) 0 holder 0 records.now t)) }
     ensures seen { reading.new.seen ≡ reading.old.seen }
     ensures within { Within geo.now reading.old.leaves.items → Within geo.now reading.new.leaves.items }
 {
@@ -73,15 +74,14 @@ pub fn look<D: Disk, const N: usize>(
     geo: &Geo,
     b: u64,
 ) -> Result<Block, ViewFault>
-    requires geo { LiesIn geo.now view.old }
-    requires inside { b < view_blocks view.old }
-    ensures bytes { IfOk result (λ block. (I : Image) → (view_state view.old).content ≡ Some I → block ≡ block_at (2 ^ geo.now.block_bits) I b) }
+    requires { Reaches geo.now view.old b }
+    ensures bytes { IfOk result (λ block. (v : Volume) → Shows view.old geo.now v → block ≡ v.at b) }
     ensures size { IfOk result (λ block. length block ≡ 2 ^ geo.now.block_bits) }
     ensures long { IfOk result (λ block. 512 ≤ length block) }
     ensures few { IfOk result (λ block. length block ≤ 4096) }
     ensures count { CallsAtMost 1 (view_state view.old) (view_state view.new) }
     ensures reads { OnlyReads view.old view.new }
-    ensures fault { IsErrOf result ViewFault.DeviceFault → Rose (view_state view.old).faults (view_state view.new).faults }
+    ensures fails { IfErr result (BlockFails view.old view.new) }
 {
     view.block(b)
 }
@@ -90,7 +90,7 @@ pub fn look<D: Disk, const N: usize>(
 #[tactic(auto, unfolding(o2_model::specs::Extents::is_extent_block))]
 fn has_extent_block(geo: &Geo, depth: u16, b: u64, bytes: &[u8]) -> bool
     requires { 512 ≤ length bytes.now }
-    ensures { (I : Image) → bytes.now ≡ block_at (2 ^ geo.now.block_bits) I b → result ≡ is_extent_block (volume_seen geo.now I) depth b }
+    ensures { (v : Volume) → v.geo ≡ geo.now → bytes.now ≡ v.at b → result ≡ is_extent_block v depth b }
 {
     let block = read_extent_block(bytes);
     let header = header_at(bytes, 0x30);
@@ -111,10 +111,10 @@ fn meet(
 ) -> Result<Vec<ExtentRec>, NoMemory>
     requires sizes { HasSizes geo.now }
     requires long { length bytes.now ≡ 2 ^ geo.now.block_bits }
-    ensures records { IfOk result (λ records. (I : Image) → bytes.now ≡ block_at (2 ^ geo.now.block_bits) I b
-        → records.items ≡ records_in_block (volume_seen geo.now I) b) }
-    ensures met { OnOk result ((I : Image) → bytes.now ≡ block_at (2 ^ geo.now.block_bits) I b
-        → (t : Extents) → Keeps reading.old t → Keeps reading.new (with_met (volume_seen geo.now I) b t)) }
+    ensures records { IfOk result (λ records. (v : Volume) → v.geo ≡ geo.now → bytes.now ≡ v.at b
+        → records.items ≡ records_in_block v b) }
+    ensures met { OnOk result ((v : Volume) → v.geo ≡ geo.now → bytes.now ≡ v.at b
+        → (t : Extents) → Keeps reading.old t → Keeps reading.new (with_met v b t)) }
     ensures seen { reading.new.seen ≡ reading.old.seen }
     ensures leaves { reading.new.leaves ≡ reading.old.leaves }
 {
@@ -130,7 +130,7 @@ fn meet(
 #[tactic(auto, unfolding(o2_model::specs::Extents::names_new_block))]
 fn may_look(geo: &Geo, low: u64, r: &ExtentRec, reading: &Reading) -> bool
     requires { HasSizes geo.now }
-    ensures { (I : Image) → result ≡ names_new_block (volume_seen geo.now I) low reading.now.seen.items r.now }
+    ensures { (v : Volume) → v.geo ≡ geo.now → result ≡ names_new_block v low reading.now.seen.items r.now }
 {
     let cpos = u64::from(r.cpos);
     let is_in_range = is_block_in_range(geo, r.blkno);
@@ -152,15 +152,15 @@ fn enter<D: Disk, const N: usize>(
 ) -> Result<Option<Vec<ExtentRec>>, ViewFault>
     requires geo { LiesIn geo.now view.old }
     requires inner { 0 < depth }
-    ensures bad { IfOk result (λ found. IfNone found ((I : Image) → (view_state view.old).content ≡ Some I → (m : ℕ) (rs : List Record) (t : Extents) → Keeps reading.old t
-        → Keeps reading.new (read_records (volume_seen geo.now I) m depth holder low (r.now ∷ rs) t))) }
-    ensures good { IfOk result (λ found. IfSome found (λ below. (I : Image) → (view_state view.old).content ≡ Some I → (t : Extents) → Keeps reading.old t
-        → Enters (volume_seen geo.now I) depth low t r.now reading.new below.items)) }
+    ensures bad { IfOk result (λ found. IfNone found ((v : Volume) → Shows view.old geo.now v → (m : ℕ) (rs : List Record) (t : Extents) → Keeps reading.old t
+        → Keeps reading.new (read_records v (ToClusters m) depth holder low (r.now ∷ rs) t))) }
+    ensures good { IfOk result (λ found. IfSome found (λ below. (v : Volume) → Shows view.old geo.now v → (t : Extents) → Keeps reading.old t
+        → Enters v depth low t r.now reading.new below.items)) }
     ensures leaves { reading.new.leaves ≡ reading.old.leaves }
     ensures apart { Apart (view_blocks view.old) reading.old.seen.items → Apart (view_blocks view.old) reading.new.seen.items }
     ensures count { LooksAtMost reading.old.seen.items reading.new.seen.items view.old view.new }
     ensures reads { OnlyReads view.old view.new }
-    ensures fault { IsErrOf result ViewFault.DeviceFault → Rose (view_state view.old).faults (view_state view.new).faults }
+    ensures fails { IfErr result (BlockFails view.old view.new) }
 {
     if !may_look(geo, low, r, reading) {
         add_fault(reading, holder)?;
@@ -178,6 +178,7 @@ fn enter<D: Disk, const N: usize>(
 }
 
 /// Reads the records of a list of this depth, and what is below them.
+#[tactic(auto, using(crate::proofs::Views::still_in, crate::proofs::Views::only_both, crate::proofs::Views::looks_both))]
 pub fn read_into<D: Disk, const N: usize>(
     alloc: Global,
     view: &mut View<'_, D, N>,
@@ -189,13 +190,13 @@ pub fn read_into<D: Disk, const N: usize>(
     reading: &mut Reading,
 ) -> Result<(), ViewFault>
     requires geo { LiesIn geo.now view.old }
-    ensures read { OnOk result ((I : Image) → (view_state view.old).content ≡ Some I → (t : Extents) → Keeps reading.old t
-        → Keeps reading.new (read_records (volume_seen geo.now I) most_flags depth holder 0 records.now t)) }
+    ensures read { OnOk result ((v : Volume) → Shows view.old geo.now v → (t : Extents) → Keeps reading.old t
+        → Keeps reading.new (read_records v (ToClusters most_flags) depth holder 0 records.now t)) }
     ensures within { Within geo.now reading.old.leaves.items → Within geo.now reading.new.leaves.items }
     ensures apart { Apart (view_blocks view.old) reading.old.seen.items → Apart (view_blocks view.old) reading.new.seen.items }
     ensures count { LooksAtMost reading.old.seen.items reading.new.seen.items view.old view.new }
     ensures reads { OnlyReads view.old view.new }
-    ensures fault { IsErrOf result ViewFault.DeviceFault → Rose (view_state view.old).faults (view_state view.new).faults }
+    ensures fails { IfErr result (BlockFails view.old view.new) }
 {
     if depth == 0 {
         read_leaves(geo, most_flags, holder, records, reading)?;

@@ -9,7 +9,8 @@ use Rattle.o2_model.specs.Words.{among, push}
 use Rattle.o2_model.specs.Volume.{Volume, over}
 use Rattle.o2_laws.specs.Frames.{SameOn}
 use Rattle.o2_model.specs.Clusters.{are_clusters_in_range}
-use Rattle.o2_model.specs.Extents.{Extents, leaf_clusters, leaf_of, list_in_block, with_leaf, with_seen, with_block, with_fault, end_of, is_sound_header, is_extent_block, is_sound_leaf, names_new_block, most_in_block, with_met, records_in_block, read_records, read_list, nothing_read, leaves_below, extent_list}
+use Rattle.o2_model.specs.Extents.{Extents, LeafRule, may_follow, leaf_clusters, leaf_of, list_in_block, with_leaf, with_seen, with_block, with_fault, end_of, is_sound_header, is_extent_block, is_sound_leaf, names_new_block, most_in_block, with_met, records_in_block, read_records, read_list, nothing_read, leaves_below, extent_list}
+use Rattle.o2_model.specs.Extents.LeafRule.{ToClusters, ToBlocks}
 use Rattle.o2_model.specs.Inodes.{is_directory, extents, has_list, most_flags, most_in_dinode}
 use Rattle.o2_model.proofs.Readings.{met_seen}
 
@@ -65,11 +66,11 @@ grows_inner v depth holder low r t child whole below rest =
     (grows_both (grows_both (grows_seen t r.blkno) (grows_both (grows_met v r.blkno looked) below)) rest)
     (grows_both (grows_seen t r.blkno) (grows_fault looked holder)))
 
-pub reading_grows : (v : Volume) (m depth holder low : ℕ) (rs : List ExtentRec) (t : Extents) → Grows t (read_records v m depth holder low rs t)
+pub reading_grows : (v : Volume) (m : LeafRule) (depth holder low : ℕ) (rs : List ExtentRec) (t : Extents) → Grows t (read_records v m depth holder low rs t)
 reading_grows v m depth holder low [] t = grows_none t
 reading_grows v m zero holder low (r ∷ rs) t =
     grows_cond (leaf_clusters r == 0) t _ _ (reading_grows v m zero holder low rs t)
-    (grows_cond (is_sound_leaf v m (end_of t.leaves) (leaf_of r)) t _ _ (grows_both (grows_leaf t (leaf_of r)) (reading_grows v m zero holder low rs (with_leaf t (leaf_of r)))) (grows_fault t holder))
+    (grows_cond (may_follow v m t.leaves (leaf_of r)) t _ _ (grows_both (grows_leaf t (leaf_of r)) (reading_grows v m zero holder low rs (with_leaf t (leaf_of r)))) (grows_fault t holder))
 reading_grows v m (suc depth) holder low (r ∷ rs) t =
     let met = with_met v r.blkno (with_seen t r.blkno) in
     let child = read_records v m depth r.blkno 0 (records_in_block v r.blkno) met in
@@ -89,6 +90,10 @@ same_leaf : (v : Volume) (at : ℕ → List ℕ) (m low : ℕ) (leaf : Leaf) →
 unfolding is_sound_leaf are_clusters_in_range
 same_leaf v at m low leaf = refl
 
+same_rule : (v : Volume) (at : ℕ → List ℕ) (m : LeafRule) (leaves : List Leaf) (leaf : Leaf) → may_follow (over v at) m leaves leaf ≡ may_follow v m leaves leaf
+same_rule v at (ToClusters flags) leaves leaf = same_leaf v at flags (end_of leaves) leaf
+same_rule v at ToBlocks leaves leaf = refl
+
 pub same_met : (v : Volume) (at : ℕ → List ℕ) (b : ℕ) (t : Extents) → at b ≡ v.at b → with_met (over v at) b t ≡ with_met v b t
 unfolding with_met
 same_met v at b t same = rw same refl
@@ -101,15 +106,15 @@ pub same_on_before : {bs cs : List ℕ} {v : Volume} {at : ℕ → List ℕ} →
 same_on_before sub same = record { same = λ b h. same.same b (sub b h) }
 
 -- Read without a fault, the records give the same over other blocks that agree on those that were looked at.
-pub reading_same : (v : Volume) (at : ℕ → List ℕ) (m depth holder low : ℕ) (rs : List ExtentRec) (t : Extents) → SameOn (read_records v m depth holder low rs t).seen v at → (read_records v m depth holder low rs t).faults ≡ []
+pub reading_same : (v : Volume) (at : ℕ → List ℕ) (m : LeafRule) (depth holder low : ℕ) (rs : List ExtentRec) (t : Extents) → SameOn (read_records v m depth holder low rs t).seen v at → (read_records v m depth holder low rs t).faults ≡ []
     → read_records (over v at) m depth holder low rs t ≡ read_records v m depth holder low rs t
 reading_same v at m depth holder low [] t same none = refl
 reading_same v at m zero holder low (r ∷ rs) t same none =
     elim (cases_Bool (leaf_clusters r == 0)) [
       | inl empty ↦ rw empty (reading_same v at m zero holder low rs t (rw empty at same) (rw empty at none))
-      | inr some ↦ elim (cases_Bool (is_sound_leaf v m (end_of t.leaves) (leaf_of r))) [
+      | inr some ↦ elim (cases_Bool (may_follow v m t.leaves (leaf_of r))) [
         | inl sound ↦
-            rw (some, same_leaf v at m (end_of t.leaves) (leaf_of r), sound)
+            rw (some, same_rule v at m t.leaves (leaf_of r), sound)
             (reading_same v at m zero holder low rs (with_leaf t (leaf_of r)) (rw (some, sound) at same) (rw (some, sound) at none))
         | inr bad ↦ absurd (push_some t.faults holder (rw (some, bad) at none))
       ]
@@ -146,7 +151,7 @@ pub same_has_list : (v : Volume) (at : ℕ → List ℕ) (b : ℕ) → at b ≡ 
 same_has_list v at b same = rw same refl
 
 -- and so does a list in a block
-pub list_same : (v : Volume) (at : ℕ → List ℕ) (m holder place most : ℕ) → at holder ≡ v.at holder → SameOn (read_list v m holder place most).seen v at → (read_list v m holder place most).faults ≡ []
+pub list_same : (v : Volume) (at : ℕ → List ℕ) (m : LeafRule) (holder place most : ℕ) → at holder ≡ v.at holder → SameOn (read_list v m holder place most).seen v at → (read_list v m holder place most).faults ≡ []
     → read_list (over v at) m holder place most ≡ read_list v m holder place most
 list_same v at m holder place most here same none =
     let list = extent_list place (v.at holder) in
@@ -171,8 +176,8 @@ extents_same v at b same none =
       | inl has ↦
           let seen : SameOn (extents v b).seen v at = same_on_before (λ c h. or_right _ _ h) same in
           rw (same_has_list v at b here, has)
-          (ap (λ m. read_list (over v at) m b 0xc0 (most_in_dinode v)) (same_flags v at b here)
-          ∙ list_same v at (most_flags v b) b 0xc0 (most_in_dinode v) here (rw has at seen) (rw has at none))
+          (ap (λ m. read_list (over v at) (ToClusters m) b 0xc0 (most_in_dinode v)) (same_flags v at b here)
+          ∙ list_same v at (ToClusters (most_flags v b)) b 0xc0 (most_in_dinode v) here (rw has at seen) (rw has at none))
     ]
 
 -- ---- the plain recursion
@@ -191,13 +196,13 @@ met_records v b t none = elim (cases_Bool (is_sound_header (most_in_block v) (li
 ]
 
 -- Without a fault, the leaf records read are those by the depth alone.
-pub leaves_are : (v : Volume) (m depth holder low : ℕ) (rs : List ExtentRec) (t : Extents) → (read_records v m depth holder low rs t).faults ≡ [] → (read_records v m depth holder low rs t).leaves ≡ t.leaves ++ leaves_below v depth rs
+pub leaves_are : (v : Volume) (m : LeafRule) (depth holder low : ℕ) (rs : List ExtentRec) (t : Extents) → (read_records v m depth holder low rs t).faults ≡ [] → (read_records v m depth holder low rs t).leaves ≡ t.leaves ++ leaves_below v depth rs
 leaves_are v m zero holder low [] t none = sym (append-nil t.leaves)
 leaves_are v m (suc depth) holder low [] t none = sym (append-nil t.leaves)
 leaves_are v m zero holder low (r ∷ rs) t none =
     elim (cases_Bool (leaf_clusters r == 0)) [
       | inl empty ↦ rw empty (leaves_are v m zero holder low rs t (rw empty at none))
-      | inr some ↦ elim (cases_Bool (is_sound_leaf v m (end_of t.leaves) (leaf_of r))) [
+      | inr some ↦ elim (cases_Bool (may_follow v m t.leaves (leaf_of r))) [
         | inl sound ↦ rw (some, sound, leaves_are v m zero holder low rs (with_leaf t (leaf_of r)) (rw (some, sound) at none)) (append_assoc t.leaves (leaf_of r ∷ []) _)
         | inr bad ↦ absurd (push_some t.faults holder (rw (some, bad) at none))
       ]
@@ -225,5 +230,5 @@ leaf_records_are v b has none =
     let list = extent_list 0xc0 (v.at b) in
     elim (cases_Bool (is_sound_header (most_in_dinode v) list.header)) [
       | inr bad ↦ absurd (push_some [] b (rw (has, bad) at none))
-      | inl sound ↦ rw (has, sound) (leaves_are v (most_flags v b) list.header.tree_depth b 0 list.records nothing_read (rw (has, sound) at none))
+      | inl sound ↦ rw (has, sound) (leaves_are v (ToClusters (most_flags v b)) list.header.tree_depth b 0 list.records nothing_read (rw (has, sound) at none))
     ]

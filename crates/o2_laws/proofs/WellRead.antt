@@ -10,7 +10,8 @@ use Rattle.o2_model.specs.declared.leaf.Leaf.{Leaf}
 use Rattle.o2_model.specs.Words.{push}
 use Rattle.o2_model.specs.Volume.{Volume, per_cluster}
 use Rattle.o2_model.specs.Clusters.{are_clusters_in_range}
-use Rattle.o2_model.specs.Extents.{Extents, leaf_clusters, leaf_of, list_in_block, with_leaf, with_seen, with_fault, end_of, is_sound_header, is_extent_block, is_sound_leaf, names_new_block, most_in_block, with_met, records_in_block, read_records, read_list, nothing_read, extent_list}
+use Rattle.o2_model.specs.Extents.{Extents, LeafRule, may_follow, leaf_clusters, leaf_of, list_in_block, with_leaf, with_seen, with_fault, end_of, is_sound_header, is_extent_block, is_sound_leaf, names_new_block, most_in_block, with_met, records_in_block, read_records, read_list, nothing_read, extent_list}
+use Rattle.o2_model.specs.Extents.LeafRule.{ToClusters, ToBlocks}
 use Rattle.o2_model.specs.Inodes.{extents, has_list, most_flags, most_in_dinode, extent_lists_of, leaf_records, records_of, extent_blocks_of}
 use Rattle.o2_laws.proofs.Readings.{push_some}
 
@@ -18,72 +19,81 @@ use Rattle.o2_laws.proofs.Readings.{push_some}
 abbrev pub BeginsCluster : Volume → Leaf → Type 0
 BeginsCluster v leaf = leaf.block % per_cluster v ≡ 0
 
-pub record IsWellRead (v : Volume) (t : Extents) : Type 0 where
+-- the same where leaf records tell clusters
+abbrev pub BeginsAsAsked : Volume → LeafRule → Leaf → Type 0
+BeginsAsAsked v (ToClusters flags) leaf = BeginsCluster v leaf
+BeginsAsAsked v ToBlocks leaf = Unit {0}
+
+pub record IsWellRead (v : Volume) (m : LeafRule) (t : Extents) : Type 0 where
   pub seen : t.faults ≡ [] → t.seen ≡ t.blocks
-  pub leaves : AllByRecursion (BeginsCluster v) t.leaves
+  pub leaves : AllByRecursion (BeginsAsAsked v m) t.leaves
 
 leaf_begins : (v : Volume) (m low : ℕ) (leaf : Leaf) → is_sound_leaf v m low leaf ≡ true → BeginsCluster v leaf
 unfolding is_sound_leaf are_clusters_in_range
 leaf_begins v m low leaf h = grind (arith, nat_tests)
 
-push_leaf : (v : Volume) (leaves : List Leaf) (leaf : Leaf) → AllByRecursion (BeginsCluster v) leaves → BeginsCluster v leaf → AllByRecursion (BeginsCluster v) (push leaves leaf)
-push_leaf v [] leaf all is = (is, tt)
-push_leaf v (x ∷ xs) leaf all is = (all.0, push_leaf v xs leaf all.1 is)
+begins_as_asked : (v : Volume) (m : LeafRule) (leaves : List Leaf) (leaf : Leaf) → may_follow v m leaves leaf ≡ true → BeginsAsAsked v m leaf
+begins_as_asked v (ToClusters flags) leaves leaf h = leaf_begins v flags (end_of leaves) leaf h
+begins_as_asked v ToBlocks leaves leaf h = tt
 
-pub well_none : (v : Volume) → IsWellRead v nothing_read
-well_none v = record { seen = λ h. refl; leaves = tt }
+push_leaf : (P : Leaf → Type 0) (leaves : List Leaf) (leaf : Leaf) → AllByRecursion P leaves → P leaf → AllByRecursion P (push leaves leaf)
+push_leaf P [] leaf all is = (is, tt)
+push_leaf P (x ∷ xs) leaf all is = (all.0, push_leaf P xs leaf all.1 is)
 
-well_leaf : (v : Volume) (t : Extents) (leaf : Leaf) → BeginsCluster v leaf → IsWellRead v t → IsWellRead v (with_leaf t leaf)
-well_leaf v t leaf begins h = record { seen = h.seen; leaves = push_leaf v t.leaves leaf h.leaves begins }
+pub well_none : (v : Volume) (m : LeafRule) → IsWellRead v m nothing_read
+well_none v m = record { seen = λ h. refl; leaves = tt }
 
-well_fault : (v : Volume) (t : Extents) (b : ℕ) → IsWellRead v t → IsWellRead v (with_fault t b)
-well_fault v t b h = record { seen = λ none. absurd (push_some t.faults b none); leaves = h.leaves }
+well_leaf : (v : Volume) (m : LeafRule) (t : Extents) (leaf : Leaf) → BeginsAsAsked v m leaf → IsWellRead v m t → IsWellRead v m (with_leaf t leaf)
+well_leaf v m t leaf begins h = record { seen = h.seen; leaves = push_leaf (BeginsAsAsked v m) t.leaves leaf h.leaves begins }
+
+well_fault : (v : Volume) (m : LeafRule) (t : Extents) (b : ℕ) → IsWellRead v m t → IsWellRead v m (with_fault t b)
+well_fault v m t b h = record { seen = λ none. absurd (push_some t.faults b none); leaves = h.leaves }
 
 -- a block that is looked at and found wrong
-well_bad : (v : Volume) (t : Extents) (b holder : ℕ) → IsWellRead v t → IsWellRead v (with_fault (with_seen t b) holder)
-well_bad v t b holder h = record { seen = λ none. absurd (push_some t.faults holder none); leaves = h.leaves }
+well_bad : (v : Volume) (m : LeafRule) (t : Extents) (b holder : ℕ) → IsWellRead v m t → IsWellRead v m (with_fault (with_seen t b) holder)
+well_bad v m t b holder h = record { seen = λ none. absurd (push_some t.faults holder none); leaves = h.leaves }
 
-well_met : (v : Volume) (t : Extents) (b : ℕ) → IsWellRead v t → IsWellRead v (with_met v b (with_seen t b))
+well_met : (v : Volume) (m : LeafRule) (t : Extents) (b : ℕ) → IsWellRead v m t → IsWellRead v m (with_met v b (with_seen t b))
 unfolding with_met
-well_met v t b h = elim (cases_Bool (is_sound_header (most_in_block v) (list_in_block v b).header)) [
+well_met v m t b h = elim (cases_Bool (is_sound_header (most_in_block v) (list_in_block v b).header)) [
   | inl sound ↦ rw sound (record { seen = λ none. ap (λ bs. push bs b) (h.seen none); leaves = h.leaves })
   | inr bad ↦ rw bad (record { seen = λ none. absurd (push_some t.faults b none); leaves = h.leaves })
 ]
 
-reading_well : (v : Volume) (m depth holder low : ℕ) (rs : List ExtentRec) (t : Extents) → IsWellRead v t → IsWellRead v (read_records v m depth holder low rs t)
+reading_well : (v : Volume) (m : LeafRule) (depth holder low : ℕ) (rs : List ExtentRec) (t : Extents) → IsWellRead v m t → IsWellRead v m (read_records v m depth holder low rs t)
 reading_well v m depth holder low [] t h = h
 reading_well v m zero holder low (r ∷ rs) t h =
     elim (cases_Bool (leaf_clusters r == 0)) [
       | inl empty ↦ rw empty (reading_well v m zero holder low rs t h)
-      | inr some ↦ elim (cases_Bool (is_sound_leaf v m (end_of t.leaves) (leaf_of r))) [
-        | inl sound ↦ rw (some, sound) (reading_well v m zero holder low rs (with_leaf t (leaf_of r)) (well_leaf v t (leaf_of r) (leaf_begins v m (end_of t.leaves) (leaf_of r) sound) h))
-        | inr bad ↦ rw (some, bad) (well_fault v t holder h)
+      | inr some ↦ elim (cases_Bool (may_follow v m t.leaves (leaf_of r))) [
+        | inl sound ↦ rw (some, sound) (reading_well v m zero holder low rs (with_leaf t (leaf_of r)) (well_leaf v m t (leaf_of r) (begins_as_asked v m t.leaves (leaf_of r) sound) h))
+        | inr bad ↦ rw (some, bad) (well_fault v m t holder h)
       ]
     ]
 reading_well v m (suc depth) holder low (r ∷ rs) t h =
     elim (cases_Bool (names_new_block v low t.seen r)) [
-      | inr old ↦ rw old (well_fault v t holder h)
+      | inr old ↦ rw old (well_fault v m t holder h)
       | inl new ↦ elim (cases_Bool (is_extent_block v depth r.blkno)) [
-        | inr bad ↦ rw (new, bad) (well_bad v t r.blkno holder h)
+        | inr bad ↦ rw (new, bad) (well_bad v m t r.blkno holder h)
         | inl good ↦
             rw (new, good) (reading_well v m (suc depth) holder (r.cpos + 1) rs _
-            (reading_well v m depth r.blkno 0 (records_in_block v r.blkno) (with_met v r.blkno (with_seen t r.blkno)) (well_met v t r.blkno h)))
+            (reading_well v m depth r.blkno 0 (records_in_block v r.blkno) (with_met v r.blkno (with_seen t r.blkno)) (well_met v m t r.blkno h)))
       ]
     ]
 
-pub list_well : (v : Volume) (m holder place most : ℕ) → IsWellRead v (read_list v m holder place most)
+pub list_well : (v : Volume) (m : LeafRule) (holder place most : ℕ) → IsWellRead v m (read_list v m holder place most)
 list_well v m holder place most =
     let list = extent_list place (v.at holder) in
     elim (cases_Bool (is_sound_header most list.header)) [
-      | inr bad ↦ rw bad (well_fault v nothing_read holder (well_none v))
-      | inl sound ↦ rw sound (reading_well v m list.header.tree_depth holder 0 list.records nothing_read (well_none v))
+      | inr bad ↦ rw bad (well_fault v m nothing_read holder (well_none v m))
+      | inl sound ↦ rw sound (reading_well v m list.header.tree_depth holder 0 list.records nothing_read (well_none v m))
     ]
 
-pub extents_well : (v : Volume) (b : ℕ) → IsWellRead v (extents v b)
+pub extents_well : (v : Volume) (b : ℕ) → IsWellRead v (ToClusters (most_flags v b)) (extents v b)
 unfolding extents
 extents_well v b = elim (cases_Bool (has_list v b)) [
-  | inr none ↦ rw none (well_none v)
-  | inl has ↦ rw has (list_well v (most_flags v b) b 0xc0 (most_in_dinode v))
+  | inr none ↦ rw none (well_none v (ToClusters (most_flags v b)))
+  | inl has ↦ rw has (list_well v (ToClusters (most_flags v b)) b 0xc0 (most_in_dinode v))
 ]
 
 -- ---- an inode has one list

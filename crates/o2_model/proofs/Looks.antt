@@ -10,7 +10,8 @@ use Rattle.std.proofs.lemmas.Map.Steps.{length-le_from_distinct_below}
 use Rattle.o2_ondisk.specs.declared.extent_rec.ExtentRec.{ExtentRec}
 use Rattle.o2_model.specs.Words.{push, Apart}
 use Rattle.o2_model.specs.Volume.{Volume, blocks}
-use Rattle.o2_model.specs.Extents.{Extents, leaf_clusters, leaf_of, with_leaf, with_seen, end_of, is_sound_header, is_extent_block, is_sound_leaf, names_new_block, with_met, records_in_block, read_records, nothing_read, extent_list}
+use Rattle.o2_model.specs.Extents.{Extents, LeafRule, may_follow, leaf_clusters, leaf_of, with_leaf, with_seen, end_of, is_sound_header, is_extent_block, is_sound_leaf, names_new_block, with_met, records_in_block, read_records, nothing_read, extent_list}
+use Rattle.o2_model.specs.Extents.LeafRule.{ToClusters}
 use Rattle.o2_model.specs.Inodes.{extents, has_list, most_flags, most_in_dinode}
 use Rattle.o2_model.proofs.Readings.{met_seen}
 
@@ -45,12 +46,12 @@ apart_more n bs b low new h = record {
 pub apart_seen : (v : Volume) (low : ℕ) (t : Extents) (r : ExtentRec) → names_new_block v low t.seen r ≡ true → Apart (blocks v) t.seen → Apart (blocks v) (with_seen t r.blkno).seen
 apart_seen v low t r new h = apart_more (blocks v) t.seen r.blkno (new_below v low t.seen r new) (new_apart v low t.seen r new) h
 
-pub reading_apart : (v : Volume) (m depth holder low : ℕ) (rs : List ExtentRec) (t : Extents) → Apart (blocks v) t.seen → Apart (blocks v) (read_records v m depth holder low rs t).seen
+pub reading_apart : (v : Volume) (m : LeafRule) (depth holder low : ℕ) (rs : List ExtentRec) (t : Extents) → Apart (blocks v) t.seen → Apart (blocks v) (read_records v m depth holder low rs t).seen
 reading_apart v m depth holder low [] t h = h
 reading_apart v m zero holder low (r ∷ rs) t h =
     elim (cases_Bool (leaf_clusters r == 0)) [
       | inl empty ↦ rw empty (reading_apart v m zero holder low rs t h)
-      | inr some ↦ elim (cases_Bool (is_sound_leaf v m (end_of t.leaves) (leaf_of r))) [
+      | inr some ↦ elim (cases_Bool (may_follow v m t.leaves (leaf_of r))) [
         | inl sound ↦ rw (some, sound) (reading_apart v m zero holder low rs (with_leaf t (leaf_of r)) h)
         | inr bad ↦ rw (some, bad) h
       ]
@@ -79,6 +80,6 @@ looks_at_few v b some =
       | inr none ↦ rw none (room_left (blocks v) [] (apart_none (blocks v) some))
       | inl has ↦ elim (cases_Bool (is_sound_header (most_in_dinode v) list.header)) [
         | inr bad ↦ rw (has, bad) (room_left (blocks v) [] (apart_none (blocks v) some))
-        | inl sound ↦ rw (has, sound) (room_left (blocks v) _ (reading_apart v (most_flags v b) list.header.tree_depth b 0 list.records nothing_read (apart_none (blocks v) some)))
+        | inl sound ↦ rw (has, sound) (room_left (blocks v) _ (reading_apart v (ToClusters (most_flags v b)) list.header.tree_depth b 0 list.records nothing_read (apart_none (blocks v) some)))
       ]
     ]

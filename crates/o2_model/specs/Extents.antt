@@ -1,5 +1,5 @@
 -- The tree of extents under an extent list.
-use Rattle.std.specs.Prelude.{ℕ, zero, suc, ◌+◌, ◌-◌, ◌/◌, ◌%◌, ◌^◌, Bool, ◌&&◌, not, ◌==◌, nat_lt, nat_le, List, [], ◌∷◌, drop, map, filter, flat_map, fold, if◌then◌else◌}
+use Rattle.std.specs.Prelude.{ℕ, zero, suc, ◌+◌, ◌-◌, ◌/◌, ◌%◌, ◌^◌, Bool, true, ◌&&◌, not, ◌==◌, nat_lt, nat_le, List, [], ◌∷◌, drop, map, filter, flat_map, fold, if◌then◌else◌}
 use Rattle.o2_ondisk.specs.ExtentBlocks.{extent_block_of}
 use Rattle.o2_ondisk.specs.ExtentListHeaders.{extent_list_header_of}
 use Rattle.o2_ondisk.specs.ExtentRecs.{extent_rec_of}
@@ -113,6 +113,18 @@ is_sound_leaf v most_flags low leaf =
     && are_clusters_in_range v leaf.block leaf.clusters
     && nat_le leaf.flags most_flags
 
+-- What is asked of the leaf records of a list.
+pub data LeafRule : Type 0 where
+  -- they tell clusters, with at most these flags
+  ToClusters : ℕ → LeafRule
+  -- they name blocks, and no more is asked of them
+  ToBlocks : LeafRule
+
+-- the leaf record may follow those that were read before
+abbrev pub may_follow : Volume → LeafRule → List Leaf → Leaf → Bool
+may_follow v (ToClusters most_flags) leaves leaf = is_sound_leaf v most_flags (end_of leaves) leaf
+may_follow v ToBlocks leaves leaf = true
+
 -- A record of an inner list begins at cluster `low` or later, and names a block in range that was not looked at before.
 unfoldable pub names_new_block : Volume → ℕ → List ℕ → ExtentRec → Bool
 names_new_block v low seen r = nat_le low r.cpos && is_in_range v r.blkno && not (among seen r.blkno)
@@ -127,22 +139,22 @@ records_in_block v b = if is_sound_header (most_in_block v) (list_in_block v b).
 
 -- The records of the list in block `holder`, of this depth, are read in order. What was read before judges each, and the
 -- first bad one ends its list. `low` is one more than the cluster at which the record before begins.
-abbrev pub read_records : Volume → ℕ → ℕ → ℕ → ℕ → List ExtentRec → Extents → Extents
-read_records v most_flags depth holder low [] t = t
-read_records v most_flags zero holder low (r ∷ rs) t =
-    if leaf_clusters r == 0 then read_records v most_flags zero holder low rs t
-    else if is_sound_leaf v most_flags (end_of t.leaves) (leaf_of r) then read_records v most_flags zero holder low rs (with_leaf t (leaf_of r))
+abbrev pub read_records : Volume → LeafRule → ℕ → ℕ → ℕ → List ExtentRec → Extents → Extents
+read_records v rule depth holder low [] t = t
+read_records v rule zero holder low (r ∷ rs) t =
+    if leaf_clusters r == 0 then read_records v rule zero holder low rs t
+    else if may_follow v rule t.leaves (leaf_of r) then read_records v rule zero holder low rs (with_leaf t (leaf_of r))
     else with_fault t holder
-read_records v most_flags (suc depth) holder low (r ∷ rs) t =
+read_records v rule (suc depth) holder low (r ∷ rs) t =
     if not (names_new_block v low t.seen r) then with_fault t holder
     else if is_extent_block v depth r.blkno
-    then read_records v most_flags (suc depth) holder (r.cpos + 1) rs (read_records v most_flags depth r.blkno 0 (records_in_block v r.blkno) (with_met v r.blkno (with_seen t r.blkno)))
+    then read_records v rule (suc depth) holder (r.cpos + 1) rs (read_records v rule depth r.blkno 0 (records_in_block v r.blkno) (with_met v r.blkno (with_seen t r.blkno)))
     else with_fault (with_seen t r.blkno) holder
 
 -- What is read from the list at byte `at` of block `holder` on, which has room for `most` records.
-abbrev pub read_list : Volume → ℕ → ℕ → ℕ → ℕ → Extents
-read_list v most_flags holder at most =
+abbrev pub read_list : Volume → LeafRule → ℕ → ℕ → ℕ → Extents
+read_list v rule holder at most =
     let list = extent_list at (v.at holder) in
     if is_sound_header most list.header
-    then read_records v most_flags list.header.tree_depth holder 0 list.records nothing_read
+    then read_records v rule list.header.tree_depth holder 0 list.records nothing_read
     else with_fault nothing_read holder

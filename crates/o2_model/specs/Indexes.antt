@@ -13,6 +13,7 @@ use Rattle.o2_ondisk.specs.declared.dx_entry.DxEntry.{DxEntry}
 use Rattle.o2_model.specs.Words.{table}
 use Rattle.o2_model.specs.Volume.{Volume, block_size, is_in_range, dinode}
 use Rattle.o2_model.specs.Extents.{Extents, nothing_read, read_list}
+use Rattle.o2_model.specs.Extents.LeafRule.{ToClusters}
 use Rattle.o2_model.specs.Inodes.{is_directory}
 use Rattle.o2_model.specs.Groups.{inodes_of}
 use Rattle.o2_model.specs.LeafRecords.{clusters_under, blocks_under}
@@ -52,7 +53,7 @@ unfoldable pub index_extents : Volume → ℕ → Extents
 index_extents v d =
     let root = index_root v d in
     if is_index_root v d root && not (is_inline_index v root)
-    then read_list v 3 root dx_root_list_place ((block_size v - dx_root_records_place) / 16)
+    then read_list v (ToClusters 3) root dx_root_list_place ((block_size v - dx_root_records_place) / 16)
     else nothing_read
 
 -- the blocks that the index has of an extent_alloc: its root and the extent blocks of its list

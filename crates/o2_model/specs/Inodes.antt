@@ -9,6 +9,7 @@ use Rattle.o2_ondisk.specs.declared.kind.Kind.TheVariants.{File, Directory, Char
 use Rattle.o2_model.specs.declared.leaf.Leaf.{Leaf}
 use Rattle.o2_model.specs.Volume.{Volume, block_size, dinode}
 use Rattle.o2_model.specs.Extents.{Extents, nothing_read, read_list}
+use Rattle.o2_model.specs.Extents.LeafRule.{ToClusters}
 
 -- ---- kinds
 -- the kind that i_mode says, if it is one of the seven
@@ -82,7 +83,7 @@ most_flags v b = if is_directory v b then unwritten_extent_flag else unwritten_e
 
 -- what is read of the dinode's own list
 unfoldable pub extents : Volume → ℕ → Extents
-extents v b = if has_list v b then read_list v (most_flags v b) b last_part_place (most_in_dinode v) else nothing_read
+extents v b = if has_list v b then read_list v (ToClusters (most_flags v b)) b last_part_place (most_in_dinode v) else nothing_read
 
 -- the leaf records of the dinode's own list, without those of 0 clusters
 abbrev pub leaf_records : Volume → ℕ → List Leaf

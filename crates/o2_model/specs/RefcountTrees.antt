@@ -5,14 +5,14 @@ use Rattle.o2_ondisk.specs.RefcountBlocks.{refcount_block_of}
 use Rattle.o2_ondisk.specs.RefcountListHeaders.{refcount_list_header_of}
 use Rattle.o2_ondisk.specs.RefcountRecs.{refcount_rec_of}
 use Rattle.o2_ondisk.specs.Signatures.{refcount_block_signature}
-use Rattle.o2_ondisk.specs.declared.extent_rec.ExtentRec.{ExtentRec}
 use Rattle.o2_ondisk.specs.declared.refcount_block.RefcountBlock.{RefcountBlock}
 use Rattle.o2_ondisk.specs.declared.refcount_list_header.RefcountListHeader.{RefcountListHeader}
 use Rattle.o2_ondisk.specs.declared.refcount_rec.RefcountRec.{RefcountRec}
 use Rattle.o2_model.specs.Words.{table, push}
 use Rattle.o2_model.specs.Orders.{rising}
 use Rattle.o2_model.specs.Volume.{Volume, block_size, is_in_range, dinode}
-use Rattle.o2_model.specs.Extents.{Extents, leaf_clusters, leaf_of, nothing_read, with_leaf, with_seen, with_fault, with_met, names_new_block, is_extent_block, is_sound_header, records_in_block, extent_list}
+use Rattle.o2_model.specs.Extents.{Extents, nothing_read, read_list}
+use Rattle.o2_model.specs.Extents.LeafRule.{ToBlocks}
 use Rattle.o2_model.specs.Groups.{inodes_of}
 
 -- ---- trees and their inodes
@@ -49,29 +49,10 @@ has_leaf_blocks v root = is_refcount_block v root && has_bits (refcount_block v 
 abbrev pub most_in_refcount_block : Volume → ℕ
 most_in_refcount_block v = (block_size v - 0x90) / 16
 
--- The records of the list in block `holder`, as in a tree of extents. A leaf record with clusters names a block, and no
--- more is asked of it.
-abbrev pub read_block_names : Volume → ℕ → ℕ → ℕ → List ExtentRec → Extents → Extents
-read_block_names v depth holder low [] t = t
-read_block_names v zero holder low (r ∷ rs) t =
-    read_block_names v zero holder low rs (if leaf_clusters r == 0 then t else with_leaf t (leaf_of r))
-read_block_names v (suc depth) holder low (r ∷ rs) t =
-    if not (names_new_block v low t.seen r) then with_fault t holder
-    else if is_extent_block v depth r.blkno
-    then read_block_names v (suc depth) holder (r.cpos + 1) rs (read_block_names v depth r.blkno 0 (records_in_block v r.blkno) (with_met v r.blkno (with_seen t r.blkno)))
-    else with_fault (with_seen t r.blkno) holder
-
--- what the list at byte 0x80 of a root with leaf blocks tells
-abbrev pub read_leaf_list : Volume → ℕ → Extents
-read_leaf_list v root =
-    let list = extent_list 0x80 (v.at root) in
-    if is_sound_header (most_in_refcount_block v) list.header
-    then read_block_names v list.header.tree_depth root 0 list.records nothing_read
-    else with_fault nothing_read root
-
--- the same, where the root has leaf blocks
+-- What the list at byte 0x80 of a root with leaf blocks tells, read as a tree of extents is. A leaf record with clusters names
+-- a block.
 unfoldable pub leaf_list : Volume → ℕ → Extents
-leaf_list v root = if has_leaf_blocks v root then read_leaf_list v root else nothing_read
+leaf_list v root = if has_leaf_blocks v root then read_list v ToBlocks root 0x80 (most_in_refcount_block v) else nothing_read
 
 -- the blocks that the list names as leaves
 abbrev pub refcount_leaves : Volume → ℕ → List ℕ

@@ -1,3 +1,10 @@
 pub mod Found
+pub mod Laid
+pub mod Numbers
+pub mod Places
+pub mod PlannedBlocks
+pub mod Rooms
 pub mod Shifts
+pub mod Shown
+pub mod Spans
 pub mod WholeBlocks

@@ -1,16 +1,20 @@
 // Each call once, on a disk in memory.
-ghost use Rattle.std.specs.Prelude.{◌≡◌, ◌*◌, ◌<◌, ◌≤◌, ◌^◌, length, IfOk, IsErrOf, Some};
-ghost use Rattle.o2_disk.specs.Device.{Rose, SameDevice, ReadsOnly};
+ghost use Rattle.std.specs.Prelude.{◌≡◌, ◌+◌, ◌*◌, ◌<◌, ◌≤◌, ◌^◌, length, IfOk, Some};
+ghost use Rattle.std.specs.Result.{IfErr};
+ghost use Rattle.o2_disk.specs.Device.{SameDevice, ReadsOnly};
 ghost use Rattle.o2_model.specs.Image.{Image, block_at};
+ghost use Rattle.o2_model.specs.Volume.{Volume};
+ghost use Rattle.o2_model.specs.declared.geo.Geo.{Geo as VolumeNumbers};
 ghost use Rattle.o2_view.specs.Blocks.{sectors_per_block};
 ghost use Rattle.o2_view.specs.Counted.{CallsAtMost};
-ghost use Rattle.o2_view.specs.Views.{view_state, view_bits, view_blocks};
+ghost use Rattle.o2_view.specs.OwnChecks.{BlockFails};
+ghost use Rattle.o2_view.specs.Views.{view_state, view_bits, view_blocks, Shows, OnlyReads};
 
 use crate::{
     Block, Bytes, Check, Geo, Numbers, ReadFault, Run, Runs, SlotPart, View, ViewFault, Which,
     find_super,
 };
-use o2_disk::{Disk, How, MemDisk};
+use o2_disk::{Disk, How, MemDisk, NoMemory};
 use o2_ondisk::DxSeed;
 use std::alloc::Global;
 use std::test::Fail;
@@ -76,7 +80,7 @@ fn tells_a_failed_search(rt: HostRuntime) -> Result<(), Fail> {
     Ok(())
 }
 
-// Two blocks of one image.
+// Two blocks of one volume.
 fn two_blocks<D: Disk, const N: usize>(
     view: &mut View<'_, D, N>,
     a: u64,
@@ -84,11 +88,10 @@ fn two_blocks<D: Disk, const N: usize>(
 ) -> Result<(Block, Block), ViewFault>
     requires a { a < view_blocks view.old }
     requires b { b < view_blocks view.old }
-    ensures bytes { IfOk result (λ both. (I : Image) → (view_state view.old).content ≡ Some I
-        → (both.0 ≡ block_at (2 ^ view_bits view.old) I a) × (both.1 ≡ block_at (2 ^ view_bits view.old) I b)) }
+    ensures shown { IfOk result (λ both. (geo : VolumeNumbers) (v : Volume) → Shows view.old geo v → (both.0 ≡ v.at a) × (both.1 ≡ v.at b)) }
     ensures length { IfOk result (λ both. (length both.0 ≡ 2 ^ view_bits view.old) × (length both.1 ≡ 2 ^ view_bits view.old)) }
-    ensures reads { ReadsOnly (view_state view.old) (view_state view.new) }
-    ensures fault { IsErrOf result ViewFault.DeviceFault → Rose (view_state view.old).faults (view_state view.new).faults }
+    ensures reads { OnlyReads view.old view.new }
+    ensures fails { IfErr result (BlockFails view.old view.new) }
     ensures count { CallsAtMost 2 (view_state view.old) (view_state view.new) }
 {
     let first = view.block(a)?;
@@ -96,7 +99,7 @@ fn two_blocks<D: Disk, const N: usize>(
     Ok((first, second))
 }
 
-// Block 1, and the disk again.
+// Block 1 of the bare device, and the disk again.
 fn second_block<D: Disk>(alloc: Global, disk: &mut D, bits: u32) -> Result<Block, ViewFault>
     requires least { 9 ≤ bits }
     requires most { bits ≤ 12 }
@@ -107,8 +110,9 @@ fn second_block<D: Disk>(alloc: Global, disk: &mut D, bits: u32) -> Result<Block
     ensures device { SameDevice (D.state disk.old) (D.state disk.new) }
 {
     let mut view = View::<D, 1>::new(alloc, disk, bits, 2)?;
-    let block = view.block(1)?;
-    Ok(block)
+    let block = view.block(1);
+    let _disk = view.into_disk();
+    block
 }
 
 #[test]
@@ -126,6 +130,183 @@ fn reads_blocks(rt: HostRuntime) -> Result<(), Fail> {
     let (first, second) = two_blocks(&mut view, 1, 3)?;
     assert_eq!(rt; &first.as_slice()[511..513], [7, 9].as_slice());
     assert_eq!(rt; second.into_vec().as_slice(), [0; 1024].as_slice());
+    Ok(())
+}
+
+// A kind of piece of a plan.
+#[derive(Clone, Copy)]
+enum Part {
+    Home,
+    Fresh,
+    Zeros,
+}
+
+// A view with blocks of 1 KiB.
+#[derive(Drop)]
+struct Planner<'a> {
+    view: View<'a, MemDisk, 1>,
+    ghost bits: { view_bits view ≡ 10 },
+}
+
+impl<'a> Planner<'a> {
+    // Plans a block full of this byte, or a run of so many blocks of zeros, where the view has them.
+    #[tactic(auto, using(crate::proofs::Rooms::block_has_room, crate::proofs::Rooms::run_has_room))]
+    fn put(&mut self, part: Part, b: u64, n: u8) -> Result<(), NoMemory> {
+        let blocks = self.view.blocks();
+        if b >= blocks {
+            return Ok(());
+        }
+        match part {
+            Part::Home => self.view.home(b, &[n; 1024]),
+            Part::Fresh => self.view.fresh(b, &[n; 1024]),
+            Part::Zeros => self.view.zeros(b, u64::from(n).min(blocks - b)),
+        }
+    }
+
+    // Plans that all blocks are zeros.
+    #[tactic(auto, using(crate::proofs::Rooms::run_has_room))]
+    fn clear(&mut self) -> Result<(), NoMemory> {
+        let blocks = self.view.blocks();
+        self.view.zeros(0, blocks)
+    }
+
+    fn put_all(&mut self, pieces: &[(Part, u64, u8)]) -> Result<(), NoMemory> {
+        for (part, b, n) in pieces {
+            self.put(*part, *b, *n)?;
+        }
+        Ok(())
+    }
+
+    // The first byte of block b.
+    fn byte(&mut self, b: u64) -> Result<u8, ViewFault> {
+        if b >= self.view.blocks() {
+            return Ok(255);
+        }
+        let block = self.view.block(b)?;
+        Ok(block.as_slice().first().copied().unwrap_or(255))
+    }
+
+    // The first bytes of five blocks.
+    fn bytes(&mut self, blocks: [u64; 5]) -> Result<[u8; 5], ViewFault> {
+        let mut bytes = [0; 5];
+        for (place, b) in blocks.into_iter().enumerate() {
+            let byte = self.byte(b)?;
+            if let Some(there) = bytes.get_mut(place) {
+                *there = byte;
+            }
+        }
+        Ok(bytes)
+    }
+
+    // What block 5 shows after each of these pieces.
+    fn shown(&mut self, pieces: &[(Part, u8)]) -> Result<[u8; 6], ViewFault> {
+        let mut bytes = [0; 6];
+        for (place, (part, n)) in pieces.iter().enumerate() {
+            self.put(*part, 5, *n)?;
+            let byte = self.byte(5)?;
+            if let Some(there) = bytes.get_mut(place) {
+                *there = byte;
+            }
+        }
+        Ok(bytes)
+    }
+
+    // What blocks 5 to 9 show once these pieces are planned and closed.
+    fn closed(&mut self, pieces: &[(Part, u64, u8)]) -> Result<[u8; 5], ViewFault> {
+        self.put_all(pieces)?;
+        let _plan = self.view.close_plan()?;
+        self.bytes([5, 6, 7, 8, 9])
+    }
+
+    // And once they are planned and taken.
+    fn taken(&mut self, pieces: &[(Part, u64, u8)]) -> Result<[u8; 5], ViewFault> {
+        self.put_all(pieces)?;
+        let _plan = self.view.take_plan();
+        self.bytes([5, 6, 7, 8, 9])
+    }
+
+    // Three plans closed one over the other, and a fourth that is taken.
+    fn in_turn(&mut self) -> Result<[[u8; 5]; 4], ViewFault> {
+        let first = self.closed(&[
+            (Part::Home, 5, 1),
+            (Part::Home, 6, 1),
+            (Part::Fresh, 7, 1),
+            (Part::Fresh, 8, 1),
+        ])?;
+        let second = self.closed(&[(Part::Home, 5, 2), (Part::Zeros, 6, 2)])?;
+        let third = self.closed(&[(Part::Fresh, 7, 3)])?;
+        let last = self.taken(&[(Part::Home, 5, 4)])?;
+        Ok([first, second, third, last])
+    }
+
+    // All blocks cleared, and a thousand home blocks, closed under a plan that clears some of them.
+    fn many(&mut self) -> Result<[u8; 5], ViewFault> {
+        self.clear()?;
+        for b in 0..1000 {
+            self.put(Part::Home, b, 7)?;
+        }
+        let _first = self.view.close_plan()?;
+        self.put(Part::Zeros, 250, 250)?;
+        let _second = self.view.close_plan()?;
+        self.bytes([249, 250, 499, 500, 1000])
+    }
+
+    // How many runs of zeros, fresh blocks and home blocks are planned.
+    fn counts(&self) -> (usize, usize, usize) {
+        let plan = self.view.planned();
+        let homes = plan.home_blocks().count();
+        (plan.zero_runs().len(), plan.fresh_blocks().len(), homes)
+    }
+}
+
+#[test]
+fn shows_what_is_planned(rt: HostRuntime) -> Result<(), Fail> {
+    let alloc = rt.alloc();
+    let mut disk = MemDisk::new(alloc, 32)?;
+    disk.attach(alloc, "disk", How::ReadWrite)?;
+    disk.write(10, &[9; 1024])?;
+    let view = View::new(alloc, &mut disk, 10, 16)?;
+    let mut planner = Planner { view };
+    let shown = planner.shown(&[
+        (Part::Zeros, 2),
+        (Part::Fresh, 2),
+        (Part::Home, 3),
+        (Part::Home, 4),
+        (Part::Fresh, 6),
+        (Part::Zeros, 1),
+    ])?;
+    let counts = planner.counts();
+    assert_eq!(rt; (shown, counts), ([0, 2, 3, 4, 4, 4], (2, 2, 1)));
+    Ok(())
+}
+
+#[test]
+fn shows_closed_plans(rt: HostRuntime) -> Result<(), Fail> {
+    let alloc = rt.alloc();
+    let mut disk = MemDisk::new(alloc, 32)?;
+    disk.attach(alloc, "disk", How::ReadWrite)?;
+    disk.write(10, &[9; 1024])?;
+    let view = View::new(alloc, &mut disk, 10, 16)?;
+    let mut planner = Planner { view };
+    let shown = planner.in_turn()?;
+    let wanted = [
+        [1, 1, 1, 1, 0],
+        [2, 0, 0, 1, 0],
+        [2, 0, 3, 1, 0],
+        [9, 0, 0, 0, 0],
+    ];
+    assert_eq!(rt; shown, wanted);
+    Ok(())
+}
+
+#[test]
+fn holds_many_blocks(rt: HostRuntime) -> Result<(), Fail> {
+    let alloc = rt.alloc();
+    let mut disk = MemDisk::new(alloc, 1 << 41)?;
+    let view = View::new(alloc, &mut disk, 10, 1 << 40)?;
+    let mut planner = Planner { view };
+    let bytes = planner.many()?;
+    assert_eq!(rt; bytes, [7, 0, 0, 7, 0]);
     Ok(())
 }
 

@@ -112,7 +112,9 @@ fn judge_on<D: Disk>(alloc: Global, disk: &mut D) -> Result<(), ReadFault>
     ensures { SameDevice (D.state disk.old) (D.state disk.new) }
 {
     let mut view = View::<D, 1>::new(alloc, disk, 10, 160)?;
-    judge_skeleton(alloc, &mut view, &numbers())
+    let judged = judge_skeleton(alloc, &mut view, &numbers());
+    let _disk = view.into_disk();
+    judged
 }
 
 #[test]

@@ -1,6 +1,8 @@
 // Files on a disk in memory, read once in each place where bytes can be.
 ghost use Rattle.std.specs.Prelude.{◌≤◌, ◌<◌, length};
 ghost use Rattle.o2_disk.specs.Device.{SameDevice};
+ghost use Rattle.o2_view.specs.Views.{OnlyReads};
+ghost use Rattle.o2_view.specs.Geos.{Reaches};
 
 use super::read_bytes;
 use crate::data_inode::has_bytes;
@@ -9,11 +11,31 @@ use o2_disk::{Disk, How, MemDisk};
 use o2_ondisk::{
     ExtentListHeader, write_dinode, write_dir_entry, write_extent_list_header, write_extent_rec,
 };
-use o2_view::{Bytes, Check, ReadFault, View};
+use o2_view::{Bytes, Check, Geo, ReadFault, View};
 use std::alloc::Global;
 use std::test::Fail;
 
-// The bytes of the inode in this block, of a disk of 160 blocks. None where it is no file or link.
+// The bytes of the inode in this block. None where it is no file or link.
+#[tactic(auto, using(o2_view::proofs::Shown::showed_before, o2_extent::proofs::Views::still_in, o2_extent::proofs::Views::only_both))]
+fn read_through<D: Disk, const N: usize>(
+    alloc: Global,
+    view: &mut View<'_, D, N>,
+    geo: &Geo,
+    inode: u64,
+    at: u64,
+    len: u32,
+) -> Result<Option<Bytes>, ReadFault>
+    requires inode { Reaches geo.now view.old inode }
+    ensures reads { OnlyReads view.old view.new }
+{
+    if !has_bytes(view, geo, inode)? {
+        return Ok(None);
+    }
+    let bytes = read_bytes(alloc, view, geo, inode, at, len)?;
+    Ok(Some(bytes))
+}
+
+// The same of a disk of 160 blocks.
 fn read_from<D: Disk>(
     alloc: Global,
     disk: &mut D,
@@ -26,12 +48,9 @@ fn read_from<D: Disk>(
     ensures device { SameDevice (D.state disk.old) (D.state disk.new) }
 {
     let mut view = View::<D, 1>::new(alloc, disk, 10, 160)?;
-    let geo = numbers();
-    if !has_bytes(&mut view, &geo, inode)? {
-        return Ok(None);
-    }
-    let bytes = read_bytes(alloc, &mut view, &geo, inode, at, len)?;
-    Ok(Some(bytes))
+    let bytes = read_through(alloc, &mut view, &numbers(), inode, at, len);
+    let _disk = view.into_disk();
+    bytes
 }
 
 // The answer is these bytes.

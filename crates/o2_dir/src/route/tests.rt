@@ -1,6 +1,8 @@
 // Directories on a disk in memory, one in its dinode and one in a block.
 ghost use Rattle.std.specs.Prelude.{◌≤◌, ◌+◌, ◌<◌, length};
 ghost use Rattle.o2_disk.specs.Device.{SameDevice, IsWritable};
+ghost use Rattle.o2_view.specs.Views.{OnlyReads};
+ghost use Rattle.o2_view.specs.Geos.{LiesIn, Reaches};
 
 use super::path;
 use crate::directory::entries;
@@ -13,7 +15,7 @@ use o2_ondisk::{
     DirEntry, ExtentListHeader, write_dinode, write_dir_entry, write_extent_list_header,
     write_extent_rec,
 };
-use o2_view::View;
+use o2_view::{Geo, View};
 use std::alloc::Global;
 use std::test::Fail;
 
@@ -95,22 +97,56 @@ fn put_all<D: Disk>(disk: &mut D) -> Result<(), Fail>
     Ok(())
 }
 
-// The entries of the directory in this block of such a disk. None where it is no directory.
+// The entries of the directory in this block. None where it is no directory.
+#[tactic(auto, using(o2_view::proofs::Shown::showed_before, o2_extent::proofs::Views::still_in, o2_extent::proofs::Views::only_both))]
+fn entries_through<D: Disk, const N: usize>(
+    alloc: Global,
+    view: &mut View<'_, D, N>,
+    geo: &Geo,
+    inode: u64,
+) -> Result<Option<Entries>, DirFault>
+    requires { Reaches geo.now view.old inode }
+    ensures { OnlyReads view.old view.new }
+{
+    if !is_directory_at(view, geo, inode)? {
+        return Ok(None);
+    }
+    let found = entries(alloc, view, geo, inode)?;
+    Ok(Some(found))
+}
+
+// The same on such a disk.
 fn entries_on<D: Disk>(alloc: Global, disk: &mut D, inode: u64) -> Result<Option<Entries>, DirFault>
     requires disk { 320 ≤ (D.state disk.old).sectors }
     requires inode { inode < 160 }
     ensures device { SameDevice (D.state disk.old) (D.state disk.new) }
 {
     let mut view = View::<D, 1>::new(alloc, disk, 10, 160)?;
-    let geo = numbers();
-    if !is_directory_at(&mut view, &geo, inode)? {
-        return Ok(None);
-    }
-    let found = entries(alloc, &mut view, &geo, inode)?;
-    Ok(Some(found))
+    let found = entries_through(alloc, &mut view, &numbers(), inode);
+    let _disk = view.into_disk();
+    found
 }
 
 // The entry of that name, in the same way.
+#[tactic(auto, using(o2_view::proofs::Shown::showed_before, o2_extent::proofs::Views::still_in, o2_extent::proofs::Views::only_both))]
+fn entry_through<D: Disk, const N: usize>(
+    alloc: Global,
+    view: &mut View<'_, D, N>,
+    geo: &Geo,
+    inode: u64,
+    name: &[u8],
+) -> Result<Option<Entry>, DirFault>
+    requires { Reaches geo.now view.old inode }
+    ensures { OnlyReads view.old view.new }
+{
+    if !is_directory_at(view, geo, inode)? {
+        return Ok(None);
+    }
+    let found = look_up(alloc, view, geo, inode, name)?;
+    Ok(Some(found))
+}
+
+// The same on such a disk.
 fn entry_on<D: Disk>(
     alloc: Global,
     disk: &mut D,
@@ -122,30 +158,42 @@ fn entry_on<D: Disk>(
     ensures device { SameDevice (D.state disk.old) (D.state disk.new) }
 {
     let mut view = View::<D, 1>::new(alloc, disk, 10, 160)?;
-    let geo = numbers();
-    if !is_directory_at(&mut view, &geo, inode)? {
-        return Ok(None);
-    }
-    let found = look_up(alloc, &mut view, &geo, inode, name)?;
-    Ok(Some(found))
+    let found = entry_through(alloc, &mut view, &numbers(), inode, name);
+    let _disk = view.into_disk();
+    found
 }
 
 // The system file of that name, in the same way.
+#[tactic(auto, using(o2_view::proofs::Shown::showed_before, o2_extent::proofs::Views::still_in, o2_extent::proofs::Views::only_both))]
+fn system_file_through<D: Disk, const N: usize>(
+    alloc: Global,
+    view: &mut View<'_, D, N>,
+    geo: &Geo,
+    name: &[u8],
+) -> Result<Option<u64>, DirFault>
+    requires { LiesIn geo.now view.old }
+    ensures { OnlyReads view.old view.new }
+{
+    if !is_directory_at(view, geo, geo.sysdir)? {
+        return Ok(None);
+    }
+    let found = system_file(alloc, view, geo, name)?;
+    Ok(Some(found))
+}
+
+// The same on such a disk.
 fn system_file_on<D: Disk>(
     alloc: Global,
     disk: &mut D,
     name: &[u8],
 ) -> Result<Option<u64>, DirFault>
-    requires disk { 320 ≤ (D.state disk.old).sectors }
+    requires { 320 ≤ (D.state disk.old).sectors }
     ensures device { SameDevice (D.state disk.old) (D.state disk.new) }
 {
     let mut view = View::<D, 1>::new(alloc, disk, 10, 160)?;
-    let geo = numbers();
-    if !is_directory_at(&mut view, &geo, geo.sysdir)? {
-        return Ok(None);
-    }
-    let found = system_file(alloc, &mut view, &geo, name)?;
-    Ok(Some(found))
+    let found = system_file_through(alloc, &mut view, &numbers(), name);
+    let _disk = view.into_disk();
+    found
 }
 
 // Where the path leads.
@@ -154,7 +202,9 @@ fn path_on<D: Disk>(alloc: Global, disk: &mut D, text: &[u8]) -> Result<u64, Pat
     ensures device { SameDevice (D.state disk.old) (D.state disk.new) }
 {
     let mut view = View::<D, 1>::new(alloc, disk, 10, 160)?;
-    path(alloc, &mut view, &numbers(), text)
+    let found = path(alloc, &mut view, &numbers(), text);
+    let _disk = view.into_disk();
+    found
 }
 
 #[test]

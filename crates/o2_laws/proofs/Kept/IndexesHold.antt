@@ -8,6 +8,7 @@ use Rattle.o2_model.specs.Words.{among}
 use Rattle.o2_model.specs.Orders.{is_none_of}
 use Rattle.o2_model.specs.Volume.{Volume}
 use Rattle.o2_model.specs.Extents.{nothing_read}
+use Rattle.o2_model.specs.Extents.LeafRule.{ToClusters}
 use Rattle.o2_model.specs.Inodes.{is_directory}
 use Rattle.o2_model.specs.Allocators.{are_metadata}
 use Rattle.o2_model.specs.Groups.{is_inode, inodes_of}
@@ -77,11 +78,11 @@ pub inline_index_extents : (v : Volume) (d : ℕ) → is_inline_index v (index_r
 unfolding index_extents
 inline_index_extents v d inline = rw (and_right (is_index_root v d (index_root v d)) (not (is_inline_index v (index_root v d))) (not_from_true _ inline)) refl
 
-pub index_well : (v : Volume) (d : ℕ) → IsWellRead v (index_extents v d)
+pub index_well : (v : Volume) (d : ℕ) → IsWellRead v (ToClusters 3) (index_extents v d)
 unfolding index_extents
 index_well v d = elim (cases_Bool (is_index_root v d (index_root v d) && not (is_inline_index v (index_root v d)))) [
-  | inl has ↦ rw has (list_well v 3 (index_root v d) 0xc0 _)
-  | inr none ↦ rw none (well_none v)
+  | inl has ↦ rw has (list_well v (ToClusters 3) (index_root v d) 0xc0 _)
+  | inr none ↦ rw none (well_none v (ToClusters 3))
 ]
 
 record IsWellListed (v : Volume) (d : ℕ) : Type 0 where

@@ -8,6 +8,7 @@ use Rattle.o2_model.specs.Words.{among}
 use Rattle.o2_model.specs.Volume.{Volume, over, block_size}
 use Rattle.o2_laws.specs.Frames.{SameOn}
 use Rattle.o2_model.specs.Extents.{Extents, nothing_read, read_list}
+use Rattle.o2_model.specs.Extents.LeafRule.{ToClusters}
 use Rattle.o2_model.specs.Inodes.{is_directory}
 use Rattle.o2_model.specs.LeafRecords.{blocks_under}
 use Rattle.o2_model.specs.Directories.{dir_blocks, directory_entries}
@@ -40,7 +41,7 @@ held_tell_indexed v at none agrees =
 -- ---- the list of an index
 -- what is read of it, where the root is this block
 abbrev read_index : Volume → ℕ → ℕ → Extents
-read_index v d root = cond (is_index_root v d root && not (is_inline_index v root)) (read_list v 3 root 0xc0 ((block_size v - 208) / 16)) nothing_read
+read_index v d root = cond (is_index_root v d root && not (is_inline_index v root)) (read_list v (ToClusters 3) root 0xc0 ((block_size v - 208) / 16)) nothing_read
 
 pub root_same : (v : Volume) (at : ℕ → List ℕ) (d b : ℕ) → at b ≡ v.at b → is_index_root (over v at) d b ≡ is_index_root v d b
 unfolding is_index_root
@@ -56,7 +57,7 @@ read_same v at d root here same none =
     = ap (λ x. x && not (is_inline_index (over v at) root)) (root_same v at d root here) ∙ ap (λ x. is_index_root v d root && not x) (inline_same v at root here) in
     elim (cases_Bool (is_index_root v d root && not (is_inline_index v root))) [
       | inr other ↦ rw (test, other) refl
-      | inl has ↦ rw (test, has) (list_same v at 3 root 0xc0 ((block_size v - 208) / 16) here (rw has at same) (rw has at none))
+      | inl has ↦ rw (test, has) (list_same v at (ToClusters 3) root 0xc0 ((block_size v - 208) / 16) here (rw has at same) (rw has at none))
     ]
 
 root_number : (v : Volume) (at : ℕ → List ℕ) (d : ℕ) → at d ≡ v.at d → index_root (over v at) d ≡ index_root v d

@@ -6,7 +6,8 @@ use Rattle.o2_ondisk.specs.declared.extent_rec.ExtentRec.{ExtentRec}
 use Rattle.o2_model.specs.Words.{among}
 use Rattle.o2_model.specs.Volume.{Volume}
 use Rattle.o2_laws.specs.Frames.{SameOn}
-use Rattle.o2_model.specs.Extents.{Extents, leaf_clusters, leaf_of, with_leaf, with_seen, end_of, is_sound_header, is_extent_block, is_sound_leaf, names_new_block, with_met, records_in_block, read_records, read_list, nothing_read, extent_list}
+use Rattle.o2_model.specs.Extents.{Extents, LeafRule, may_follow, leaf_clusters, leaf_of, with_leaf, with_seen, end_of, is_sound_header, is_extent_block, is_sound_leaf, names_new_block, with_met, records_in_block, read_records, read_list, nothing_read, extent_list}
+use Rattle.o2_model.specs.Extents.LeafRule.{ToClusters}
 use Rattle.o2_model.specs.Inodes.{is_directory, extents, has_list, most_flags, most_in_dinode}
 use Rattle.o2_laws.proofs.Readings.{push_some, reading_grows, among_last, same_on_before}
 use Rattle.o2_model.proofs.Readings.{met_seen}
@@ -31,16 +32,16 @@ unfolding records_in_block
 alike_records v u sizes b same = rw (same, sizes.block_bits) refl
 
 -- ---- extents
-reading_alike : (v u : Volume) → SameSizes v u → (m depth holder low : ℕ) (rs : List ExtentRec) (t : Extents) → SameOn (read_records v m depth holder low rs t).seen v u.at
+reading_alike : (v u : Volume) → SameSizes v u → (m : LeafRule) (depth holder low : ℕ) (rs : List ExtentRec) (t : Extents) → SameOn (read_records v m depth holder low rs t).seen v u.at
     → (read_records v m depth holder low rs t).faults ≡ [] → (read_records u m depth holder low rs t).faults ≡ []
     → read_records u m depth holder low rs t ≡ read_records v m depth holder low rs t
 reading_alike v u sizes m depth holder low [] t same none here = refl
 reading_alike v u sizes m zero holder low (r ∷ rs) t same none here =
     elim (cases_Bool (leaf_clusters r == 0)) [
       | inl empty ↦ rw empty (reading_alike v u sizes m zero holder low rs t (rw empty at same) (rw empty at none) (rw empty at here))
-      | inr some ↦ elim (cases_Bool (is_sound_leaf v m (end_of t.leaves) (leaf_of r))) [
+      | inr some ↦ elim (cases_Bool (may_follow v m t.leaves (leaf_of r))) [
         | inr bad ↦ absurd (push_some t.faults holder (rw (some, bad) at none))
-        | inl sound ↦ elim (cases_Bool (is_sound_leaf u m (end_of t.leaves) (leaf_of r))) [
+        | inl sound ↦ elim (cases_Bool (may_follow u m t.leaves (leaf_of r))) [
           | inr bad ↦ absurd (push_some t.faults holder (rw (some, bad) at here))
           | inl also ↦
               rw (some, also, sound)
@@ -91,7 +92,7 @@ alike_flags v u b same = rw same refl
 alike_room : (v u : Volume) → SameSizes v u → (b : ℕ) → most_in_dinode u ≡ most_in_dinode v
 alike_room v u sizes b = rw sizes.block_bits refl
 
-list_alike : (v u : Volume) → SameSizes v u → (m holder place most : ℕ) → u.at holder ≡ v.at holder → SameOn (read_list v m holder place most).seen v u.at
+list_alike : (v u : Volume) → SameSizes v u → (m : LeafRule) (holder place most : ℕ) → u.at holder ≡ v.at holder → SameOn (read_list v m holder place most).seen v u.at
     → (read_list v m holder place most).faults ≡ [] → (read_list u m holder place most).faults ≡ [] → read_list u m holder place most ≡ read_list v m holder place most
 list_alike v u sizes m holder place most bytes same none here =
     let list = extent_list place (v.at holder) in
@@ -114,5 +115,5 @@ extents_alike v u sizes b same none here =
           let flags = alike_flags v u b bytes in
           let room = alike_room v u sizes b in
           rw (also, has, flags, room)
-          (list_alike v u sizes (most_flags v b) b 0xc0 (most_in_dinode v) bytes (rw has at seen) (rw has at none) (rw (also, flags, room) at here))
+          (list_alike v u sizes (ToClusters (most_flags v b)) b 0xc0 (most_in_dinode v) bytes (rw has at seen) (rw has at none) (rw (also, flags, room) at here))
     ]

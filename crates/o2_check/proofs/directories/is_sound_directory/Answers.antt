@@ -1,17 +1,19 @@
 -- The dinode, and then the entries.
 use Rattle.std.proofs.Common.{sym, ◌∙◌}
 use Rattle.std.proofs.lemmas.Result.{IfOk-weaker}
-use Rattle.o2_extent.specs.Seen.{volume_seen}
+use Rattle.o2_view.proofs.Shown.{still_shows}
 use Rattle.o2_check.proofs.Skeletons.{invalid_is_bad, entries_decide}
 use Rattle.o2_check.proofs.directories.is_sound_directory.Goals as goal
 
-pub returns-then-not-branch-clause-is : goal.returns-then-not-branch-clause-is
-returns-then-not-branch-clause-is g c I told =
-    sym (invalid_is_bad (volume_seen c.args.geo.now I) c.args.inode (sym (c.in_ok-is_valid_directory.ensures.is I told) ∙ c.if-not-branch.true))
+pub returns-in_default-clause-is : goal.returns-in_default-clause-is
+returns-in_default-clause-is g c v shows =
+    let none = rw c.in_default.is at c.in_ok-block.ensures.none in
+    sym (invalid_is_bad v c.args.inode (none v shows))
 
 pub returns-clause-is : goal.returns-clause-is
 returns-clause-is g c = IfOk-weaker c.has_sound_entries.result _ _
-    (λ has decides I told.
-    decides I (c.is_valid_directory.ensures.reads.reads.content ∙ told)
-    ∙ sym (entries_decide (volume_seen c.args.geo.now I) c.args.inode (sym (c.in_ok-is_valid_directory.ensures.is I told) ∙ c.if-not-branch.false)))
+    (λ has decides v shows.
+    let some = rw c.in-Some.is at c.in_ok-block.ensures.some in
+    let tests = some v shows in
+    decides v (still_shows c.valid_directory.ensures.reads shows) ∙ sym (entries_decide v c.args.inode tests.0))
     c.has_sound_entries.ensures.has

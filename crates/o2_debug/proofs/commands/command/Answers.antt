@@ -1,9 +1,10 @@
 -- The path is followed where the skeleton is sound, on what the judge left of the view.
-use Rattle.std.proofs.Common.{inl, inr, arith, sym, ◌∙◌}
-use Rattle.std.proofs.lemmas.Result.{IfErr-weaker}
-use Rattle.o2_extent.specs.Seen.{volume_seen}
+use Rattle.std.proofs.Common.{arith}
+use Rattle.std.proofs.lemmas.Result.{IfErr-weaker, on_ok_weaker}
 use Rattle.o2_extent.proofs.Views.{still_in}
-use Rattle.o2_debug.proofs.Starts.{starts}
+use Rattle.o2_view.specs.Views.{view_state}
+use Rattle.o2_view.proofs.Shown.{still_shows, showed_before}
+use Rattle.o2_debug.proofs.Fails.{query_fails}
 use Rattle.o2_debug.proofs.commands.command.Goals as goal
 
 pub answer_at_path-requires : goal.answer_at_path-requires
@@ -12,36 +13,19 @@ answer_at_path-requires g c = (
   (
     still_in c.in_ok-judge_skeleton.ensures.lies c.judge_skeleton.ensures.reads,
     (
-      omega (arith, c.in_ok-judge_skeleton.ensures.root, c.judge_skeleton.ensures.reads.same.blocks),
-      (
-        omega (arith, c.in_ok-judge_skeleton.ensures.sysdir, c.judge_skeleton.ensures.reads.same.blocks),
-        (
-          c.requires.path,
-          λ I after. starts (volume_seen c.args.geo.now I) (c.in_ok-judge_skeleton.ensures.sound I (sym c.judge_skeleton.ensures.reads.reads.content ∙ after)),
-        ),
-      ),
+      c.requires.path,
+      λ v after. c.in_ok-judge_skeleton.ensures.told v (showed_before c.judge_skeleton.ensures.reads after),
     ),
   ),
 )
 
-pub returns-clause-bad : goal.returns-clause-bad
-returns-clause-bad g c =
-    IfErr-weaker c.answer_at_path.result _ _
-    (λ fault bad check b is I told. inr (c.in_ok-judge_skeleton.ensures.sound I told, bad check b is I (c.judge_skeleton.ensures.reads.reads.content ∙ told)))
-    c.answer_at_path.ensures.bad
-
-pub returns-clause-untouched : goal.returns-clause-untouched
-returns-clause-untouched g c =
-    IfErr-weaker c.answer_at_path.result _ _
-    (λ fault same check b is I told. same check b is I (c.judge_skeleton.ensures.reads.reads.content ∙ told))
-    c.answer_at_path.ensures.untouched
+pub returns-clause-told : goal.returns-clause-told
+returns-clause-told g c = on_ok_weaker c.answer_at_path.result (λ answers v shows. answers v (still_shows c.judge_skeleton.ensures.reads shows)) c.answer_at_path.ensures.told
 
 pub returns-clause-some : goal.returns-clause-some
-returns-clause-some g c I told =
-    elim (c.answer_at_path.ensures.some I (c.judge_skeleton.ensures.reads.reads.content ∙ told)) [
-      | inl nothing ↦ inl nothing
-      | inr put ↦ inr (c.in_ok-judge_skeleton.ensures.sound I told, put)
-    ]
+returns-clause-some g c v shows = c.answer_at_path.ensures.some v (still_shows c.judge_skeleton.ensures.reads shows)
 
-pub returns-clause-cut : goal.returns-clause-cut
-returns-clause-cut g c failed I told = (c.in_ok-judge_skeleton.ensures.sound I told, c.answer_at_path.ensures.cut failed I (c.judge_skeleton.ensures.reads.reads.content ∙ told))
+pub returns-clause-fails : goal.returns-clause-fails
+returns-clause-fails g c = IfErr-weaker c.answer_at_path.result _ _
+    (query_fails _ _ (view_state c.args.view.now) (view_state c.judge_skeleton.new.view) (view_state c.answer_at_path.new.view) c.args.query.now (g.K.Sink.state c.args.out.now) (g.K.Sink.state c.answer_at_path.new.out) _ c.judge_skeleton.ensures.reads.later (λ v shows. still_shows c.judge_skeleton.ensures.reads shows))
+    c.answer_at_path.ensures.fails

@@ -1,11 +1,12 @@
 -- The inode is sound, and of a kind that the query is for.
-use Rattle.std.proofs.Common.{ℕ, arith, subst, sym, ◌∙◌}
+use Rattle.std.proofs.Common.{ℕ, subst, sym, refl, ◌∙◌, arith}
 use Rattle.std.proofs.lemmas.Result.{IfErr-weaker, on_ok_weaker}
-use Rattle.o2_extent.specs.Seen.{volume_seen}
 use Rattle.o2_extent.proofs.Views.{still_in}
-use Rattle.o2_debug.specs.Answers.{FailsFor}
-use Rattle.o2_debug.specs.Objects.{IsSound}
-use Rattle.o2_debug.proofs.AnswerLemmas.{asked_kind, answers_as, answers_some_as, begins_as}
+use Rattle.o2_view.specs.OwnChecks.{NoneFails, FailsFirst}
+use Rattle.o2_view.proofs.Shown.{still_shows, showed_before}
+use Rattle.o2_debug.specs.Objects.{object_checks, query_checks}
+use Rattle.o2_debug.proofs.AnswerLemmas.{asked_kind, answers_as, answers_some_as, begins_as, own_for}
+use Rattle.o2_debug.proofs.Fails.{answer_fails}
 use Rattle.o2_debug.proofs.Judged.{of_own_number}
 use Rattle.o2_debug.proofs.last_object.answer.Goals as goal
 
@@ -13,19 +14,18 @@ pub put_answer-requires : goal.put_answer-requires
 put_answer-requires g c = (
   omega arith,
   (
-    still_in c.requires.geo c.judge.ensures.reads,
+    still_in c.requires.inode.volume c.judge.ensures.reads,
     (
       c.in_ok-reading.ensures.fits,
       (
-        λ I after. of_own_number (volume_seen c.args.geo.now I) c.args.inode c.in_ok-reading.reading (c.in_ok-reading.ensures.read I (sym c.judge.ensures.reads.reads.content ∙ after)),
+        λ v after. of_own_number v c.args.inode c.in_ok-reading.reading (c.in_ok-reading.ensures.told v (showed_before c.judge.ensures.reads after)).1,
         (
-          λ I after.
-              let told = sym c.judge.ensures.reads.reads.content ∙ after in
-              subst (λ (b : ℕ). IsSound (volume_seen c.args.geo.now I) b) (sym (c.in_ok-reading.ensures.read I told).number) (c.in_ok-reading.ensures.sound I told),
-          λ I after.
-              let v = volume_seen c.args.geo.now I in
-              let told = sym c.judge.ensures.reads.reads.content ∙ after in
-              let tells = of_own_number v c.args.inode c.in_ok-reading.reading (c.in_ok-reading.ensures.read I told) in
+          λ v after.
+              let told = c.in_ok-reading.ensures.told v (showed_before c.judge.ensures.reads after) in
+              subst (λ (b : ℕ). NoneFails (object_checks b) v) (sym told.1.number) told.0,
+          λ v after.
+              let told = c.in_ok-reading.ensures.told v (showed_before c.judge.ensures.reads after) in
+              let tells = of_own_number v c.args.inode c.in_ok-reading.reading told.1 in
               asked_kind v c.in_ok-reading.reading.inode c.in_ok-reading.reading.dinode tells.dinode c.args.query.now _ (sym c.is_for.ensures ∙ c.if-not-is_for.false),
         ),
       ),
@@ -33,29 +33,27 @@ put_answer-requires g c = (
   ),
 )
 
-pub returns-then-not-is_for-clause-kind : goal.returns-then-not-is_for-clause-kind
-returns-then-not-is_for-clause-kind g c is I told = record {
-  sound = c.in_ok-reading.ensures.sound I told;
-  kind = asked_kind (volume_seen c.args.geo.now I) c.args.inode c.in_ok-reading.reading.dinode (c.in_ok-reading.ensures.read I told).dinode c.args.query.now _ (sym c.is_for.ensures ∙ c.if-not-is_for.true);
-}
+pub returns-then-not-is_for-clause-fails : goal.returns-then-not-is_for-clause-fails
+returns-then-not-is_for-clause-fails g c = (
+  refl,
+  λ v shows.
+      let told = c.in_ok-reading.ensures.told v shows in
+      record { sound = told.0; kind = asked_kind v c.args.inode c.in_ok-reading.reading.dinode told.1.dinode c.args.query.now _ (sym c.is_for.ensures ∙ c.if-not-is_for.true) },
+)
 
-pub returns-clause-all : goal.returns-clause-all
-returns-clause-all g c = on_ok_weaker c.put_answer.result (λ answers I told.
-    answers_as c.args.query.now (volume_seen c.args.geo.now I) c.in_ok-reading.reading.inode c.args.inode (c.in_ok-reading.ensures.read I told).number (answers I (c.judge.ensures.reads.reads.content ∙ told))) c.put_answer.ensures.all
+pub returns-clause-told : goal.returns-clause-told
+returns-clause-told g c = on_ok_weaker c.put_answer.result (λ answers v shows.
+    answers_as c.args.query.now v c.in_ok-reading.reading.inode c.args.inode (c.in_ok-reading.ensures.told v shows).1.number (answers v (still_shows c.judge.ensures.reads shows))) c.put_answer.ensures.told
 
 pub returns-clause-some : goal.returns-clause-some
-returns-clause-some g c I told =
-    begins_as c.args.query.now (volume_seen c.args.geo.now I) c.in_ok-reading.reading.inode c.args.inode (c.in_ok-reading.ensures.read I told).number (c.put_answer.ensures.some I (c.judge.ensures.reads.reads.content ∙ told))
+returns-clause-some g c v shows =
+    begins_as c.args.query.now v c.in_ok-reading.reading.inode c.args.inode (c.in_ok-reading.ensures.told v shows).1.number (c.put_answer.ensures.some v (still_shows c.judge.ensures.reads shows))
 
-pub returns-clause-cut : goal.returns-clause-cut
-returns-clause-cut g c failed I told =
-    answers_some_as c.args.query.now (volume_seen c.args.geo.now I) c.in_ok-reading.reading.inode c.args.inode (c.in_ok-reading.ensures.read I told).number (c.put_answer.ensures.cut failed I (c.judge.ensures.reads.reads.content ∙ told))
-
-pub returns-clause-bad : goal.returns-clause-bad
-returns-clause-bad g c =
-    IfErr-weaker c.put_answer.result _ _ (λ y fails check at is I told.
-    subst (λ (b : ℕ). FailsFor c.args.query.now (volume_seen c.args.geo.now I) b check at) (c.in_ok-reading.ensures.read I told).number (fails check at is I (c.judge.ensures.reads.reads.content ∙ told))) c.put_answer.ensures.bad
-
-pub returns-clause-untouched : goal.returns-clause-untouched
-returns-clause-untouched g c =
-    IfErr-weaker c.put_answer.result _ _ (λ y same check b is I told. same check b is I (c.judge.ensures.reads.reads.content ∙ told)) c.put_answer.ensures.untouched
+pub returns-clause-fails : goal.returns-clause-fails
+returns-clause-fails g c = IfErr-weaker c.put_answer.result _ _
+    (answer_fails c.put_answer.new.view c.args.geo.now (g.K.Sink.state c.args.out.now) (g.K.Sink.state c.put_answer.new.out) _ _ _ _ _ _ _ c.judge.ensures.reads
+    (λ check own. own_for c.args.query.now c.in_ok-reading.reading.inode c.args.inode check own)
+    (λ v shows check at fails. subst (λ (b : ℕ). FailsFirst (query_checks c.args.query.now b) v check at) (c.in_ok-reading.ensures.told v shows).1.number fails)
+    (λ v shows some. answers_some_as c.args.query.now v c.in_ok-reading.reading.inode c.args.inode (c.in_ok-reading.ensures.told v shows).1.number some)
+    (λ never. absurd never))
+    c.put_answer.ensures.fails

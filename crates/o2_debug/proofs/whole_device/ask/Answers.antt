@@ -1,11 +1,12 @@
--- The view is of all whole blocks of the device.
-use Rattle.std.proofs.Common.{arith, sym, ◌∙◌, ap}
-use Rattle.std.proofs.lemmas.Result.{IfErr-weaker}
-use Rattle.o2_debug.proofs.WholeDevice.{whole_blocks}
+-- The view is of all whole blocks of the device, and shows the volume on it.
+use Rattle.std.proofs.Common.{rules, sym, ◌∙◌, ap, arith}
+use Rattle.std.proofs.lemmas.Result.{on_ok_weaker}
+use Rattle.o2_debug.specs.Devices.{volume_on}
+use Rattle.o2_debug.proofs.WholeDevice.{whole_blocks, device_shows, device_fails}
 use Rattle.o2_debug.proofs.whole_device.ask.Goals as goal
 
-pub command-requires : goal.command-requires
-command-requires g c = (
+pub command-answer-requires : goal.command-answer-requires
+command-answer-requires g c = (
   omega arith,
   (
     sym c.in-Ok.ensures.bits,
@@ -14,7 +15,10 @@ command-requires g c = (
       (
         c.requires.most,
         (
-          λ I told. whole_blocks c.args.geo.now.block_bits c.sectors.result _ I c.requires.least c.in-Ok.ensures.blocks (g.met.D.Disk.has_sectors c.in-Ok.view.disk.now I told ∙ ap (λ d. (g.D.Disk.state d).sectors) c.in-Ok.ensures.disk ∙ sym c.sectors.ensures),
+          λ v shows.
+              whole_blocks c.args.geo.now.block_bits c.sectors.result _ shows.image c.requires.least c.in-Ok.ensures.blocks
+              (g.met.D.Disk.has_sectors c.in-Ok.view.disk.now shows.image shows.told ∙ ap (λ d. (g.D.Disk.state d).sectors) c.in-Ok.ensures.disk ∙ sym c.sectors.ensures)
+              ∙ sym shows.size,
           c.requires.path,
         ),
       ),
@@ -22,14 +26,17 @@ command-requires g c = (
   ),
 )
 
-pub returns-clause-untouched : goal.returns-clause-untouched
-returns-clause-untouched g c =
-    IfErr-weaker c.command.result _ _
-    (λ fault same check b is I told. same check b is I (ap (λ d. (g.D.Disk.state d).content) c.in-Ok.ensures.disk ∙ told))
-    c.command.ensures.untouched
-
-pub returns-clause-cut : goal.returns-clause-cut
-returns-clause-cut g c failed I told = c.command.ensures.cut failed I (ap (λ d. (g.D.Disk.state d).content) c.in-Ok.ensures.disk ∙ told)
+pub returns-clause-told : goal.returns-clause-told
+returns-clause-told g c = on_ok_weaker c.command-answer.result
+    (λ answers I told.
+    answers (volume_on c.args.geo.now I) (device_shows c.in-Ok.view c.args.geo.now c.in-Ok.ensures.bits c.in-Ok.ensures.plan c.in-Ok.ensures.closed _ (ap (λ d. (g.D.Disk.state d).content) c.in-Ok.ensures.disk) I told))
+    c.command-answer.ensures.told
 
 pub returns-clause-some : goal.returns-clause-some
-returns-clause-some g c I told = c.command.ensures.some I (ap (λ d. (g.D.Disk.state d).content) c.in-Ok.ensures.disk ∙ told)
+returns-clause-some g c I told =
+    c.command-answer.ensures.some (volume_on c.args.geo.now I) (device_shows c.in-Ok.view c.args.geo.now c.in-Ok.ensures.bits c.in-Ok.ensures.plan c.in-Ok.ensures.closed _ (ap (λ d. (g.D.Disk.state d).content) c.in-Ok.ensures.disk) I told)
+
+pub returns-clause-fails : goal.returns-clause-fails
+returns-clause-fails g c =
+    device_fails c.in-Ok.view c.args.geo.now c.in-Ok.ensures.bits c.in-Ok.ensures.plan c.in-Ok.ensures.closed c.command-answer.result (g.D.Disk.state c.args.device.now) _ c.command-answer.new.view c.args.query.now
+    (g.K.Sink.state c.args.out.now) (g.K.Sink.state c.command-answer.new.out) _ (ap g.D.Disk.state c.in-Ok.ensures.disk) (search rules) c.command-answer.ensures.fails

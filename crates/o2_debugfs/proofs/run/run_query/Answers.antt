@@ -12,7 +12,7 @@ returns-in-Err g c =
     ends_refused c.args.query c.args.name.now _ _ (state c.args.out.now) (state c.tell.new.out) (state c.put_line.new.out)
     answered.reads answered.at_most answered.some c.put_line.ensures.stops
     c.in-Err.cause answered.not_fine (λ I told. answered.told I told)
-    (λ I told refused. ap state (answered.silent I told refused))
+    (λ I told refused. ap state (answered.silent refused))
     answered.causes
     (λ other. answered.named (λ failed. other (let same : c.in-Err.cause ≡ NoMemory = cc failed in same)))
     answered.not_writable

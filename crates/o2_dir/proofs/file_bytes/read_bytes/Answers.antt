@@ -1,15 +1,9 @@
 -- What was read once tells the bytes.
-use Rattle.std.proofs.Common.{◌∙◌}
+use Rattle.o2_view.proofs.Shown.{still_shows}
 use Rattle.o2_dir.proofs.file_bytes.read_bytes.Goals as goal
 
-pub returns-clause-bytes : goal.returns-clause-bytes
-returns-clause-bytes g c I told =
-    let after = c.look.ensures.reads.reads.content ∙ told in
-    let tells = c.in_ok-reading.ensures.sound I after (c.in_ok-block.ensures.bytes I told) in
-    c.in_ok-part_of_file.ensures.bytes I (c.sound_inode_in.ensures.reads.reads.content ∙ after) c.args.inode tells
-
-pub returns-clause-sound : goal.returns-clause-sound
-returns-clause-sound g c I told =
-    let after = c.look.ensures.reads.reads.content ∙ told in
-    let tells = c.in_ok-reading.ensures.sound I after (c.in_ok-block.ensures.bytes I told) in
-    record { extent = tells.read.sound; size = tells.size }
+pub returns-clause-told : goal.returns-clause-told
+returns-clause-told g c v shows =
+    let after = still_shows c.look.ensures.reads shows in
+    let tells = c.in_ok-reading.ensures.told v after in
+    ((tells.read.sound, (tells.size, tt)), c.in_ok-part_of_file.ensures.bytes v (still_shows c.sound_inode_in.ensures.reads after) c.args.inode tells)

@@ -2,7 +2,6 @@
 use Rattle.std.proofs.Common.{sym, subst}
 use Rattle.std.proofs.lemmas.List.{take_rest}
 use Rattle.std.proofs.lemmas.Result.{IfOk-weaker}
-use Rattle.o2_extent.specs.Seen.{volume_seen}
 use Rattle.o2_extent.specs.Rising.{AreRising}
 use Rattle.o2_extent.proofs.Rising.{records_rise}
 use Rattle.o2_dir.proofs.AnyBlocks.{inline_told, size_told_of}
@@ -10,15 +9,13 @@ use Rattle.o2_dir.proofs.FileParts.{inline_part, fast_part, mapped_part, fast_to
 use Rattle.o2_dir.proofs.file_bytes.read_data.Goals as goal
 
 pub returns-then-is_inline-clause-bytes : goal.returns-then-is_inline-clause-bytes
-returns-then-is_inline-clause-bytes g c I told b read =
-    let v = volume_seen c.args.geo.now I in
+returns-then-is_inline-clause-bytes g c v shows b read =
     let bytes = c.args.bytes.now in
     let inside = inline_told bytes (v.at b) _ _ _ read.holds c.read_dinode-dinode.ensures c.is_inline.ensures c.if-is_inline.true in
     inline_part v b c.read_dinode-dinode.result.size c.args.at c.args.len bytes _ _ inside read.holds (size_told_of bytes (v.at b) _ read.holds c.read_dinode-dinode.ensures) (take_rest bytes 0xc8) c.in_ok-copy_part.ensures
 
 pub returns-then-is_fast_link-clause-bytes : goal.returns-then-is_fast_link-clause-bytes
-returns-then-is_fast_link-clause-bytes g c I told b read =
-    let v = volume_seen c.args.geo.now I in
+returns-then-is_fast_link-clause-bytes g c v shows b read =
     let bytes = c.args.bytes.now in
     let outside = inline_told bytes (v.at b) _ _ _ read.holds c.read_dinode-dinode.ensures c.is_inline.ensures c.if-is_inline.false in
     let fast = fast_told bytes (v.at b) _ _ _ read.holds c.read_dinode-dinode.ensures c.is_fast_link.ensures c.if-is_fast_link.true in
@@ -26,10 +23,9 @@ returns-then-is_fast_link-clause-bytes g c I told b read =
 
 pub returns-clause-bytes : goal.returns-clause-bytes
 returns-clause-bytes g c = IfOk-weaker c.read_mapped.result _ _
-    (λ out is I told b read.
-    let v = volume_seen c.args.geo.now I in
+    (λ out is v shows b read.
     let bytes = c.args.bytes.now in
     let outside = inline_told bytes (v.at b) _ _ _ read.holds c.read_dinode-dinode.ensures c.is_inline.ensures c.if-is_inline.false in
     let slow = fast_told bytes (v.at b) _ _ _ read.holds c.read_dinode-dinode.ensures c.is_fast_link.ensures c.if-is_fast_link.false in
-    mapped_part v b c.read_dinode-dinode.result.size c.args.at c.args.len c.args.leaves.now out.items outside slow (size_told_of bytes (v.at b) _ read.holds c.read_dinode-dinode.ensures) read.are (is I told (subst AreRising (sym read.are) (records_rise v b))))
+    mapped_part v b c.read_dinode-dinode.result.size c.args.at c.args.len c.args.leaves.now out.items outside slow (size_told_of bytes (v.at b) _ read.holds c.read_dinode-dinode.ensures) read.are (is v shows (subst AreRising (sym read.are) (records_rise v b))))
     c.read_mapped.ensures.bytes

@@ -1,45 +1,47 @@
 -- The entry that was found is the step's.
-use Rattle.std.proofs.Common.{refl, sym, ap, length, arith, ◌∙◌}
-use Rattle.o2_extent.proofs.Views.{still_in}
+use Rattle.std.proofs.Common.{inr, refl, sym, ◌∙◌}
+use Rattle.o2_view.proofs.Shown.{still_shows}
+use Rattle.o2_dir.proofs.Faults.{step_fails}
 use Rattle.o2_dir.proofs.path_step.step.Goals as goal
 
-pub look_up_in-requires : goal.look_up_in-requires
-look_up_in-requires g c = (
-  omega arith,
-  (
-    still_in c.requires.geo c.directory_block.ensures.reads,
-    (
-      omega (arith, c.requires.inode, c.directory_block.ensures.reads.same.blocks),
-      (
-        ap length c.as_slice.ensures ∙ (rw c.in-Some.is at c.in_ok-block.ensures.size),
-        (
-          (let long = rw c.in-Some.is at c.in_ok-block.ensures.long in
-              omega (arith, ap length c.as_slice.ensures, long)),
-          (
-            λ I after.
-                let holds = rw c.in-Some.is at c.in_ok-block.ensures.holds in
-                c.as_slice.ensures ∙ holds I (sym c.directory_block.ensures.reads.reads.content ∙ after),
-            λ I after.
-                let yes = rw c.in-Some.is at c.in_ok-block.ensures.yes in
-                yes I (sym c.directory_block.ensures.reads.reads.content ∙ after),
-          ),
-        ),
+-- of the directory
+pub returns-in_err-entry-clause-fails : goal.returns-in_err-entry-clause-fails
+returns-in_err-entry-clause-fails g c =
+    let yes = rw c.in-Some.is at c.in_ok-block.ensures.yes in
+    step_fails c.from_residual-in_err-entry.result c.look_up_in.new.view c.args.geo.now c.args.inode c.args.name.now c.directory_block.ensures.reads yes c.in_err-entry.field-0.0 c.in_err-entry.ensures.fails c.from_residual-in_err-entry.ensures.1
+
+-- the entry is in hand
+pub returns-then-not-branch-clause-fails : goal.returns-then-not-branch-clause-fails
+returns-then-not-branch-clause-fails g c = (
+  inr (inr (inr refl)),
+  λ v shows.
+      let looked = still_shows c.directory_block.ensures.reads shows in
+      let yes = rw c.in-Some.is at c.in_ok-block.ensures.yes in
+      let told = c.in_ok-entry.ensures.told v looked in
+      inr (
+        refl,
+        record {
+          directory = yes v shows;
+          sound = told.0;
+          entry = c.in_ok-entry.entry;
+          first = told.1;
+          invalid = sym (c.in_ok-is_valid_at.ensures.is v (still_shows c.look_up_in.ensures.reads looked)) ∙ c.if-not-branch.true;
+          place = refl;
+        },
       ),
-    ),
-  ),
 )
 
 pub returns-clause-to : goal.returns-clause-to
-returns-clause-to g c I content =
-    let at_look_up = c.directory_block.ensures.reads.reads.content ∙ content in
-    let at_is_valid = c.look_up_in.ensures.reads.reads.content ∙ at_look_up in
-    let yes = rw c.in-Some.is at c.in_ok-block.ensures.yes in (
+returns-clause-to g c v shows =
+    let looked = still_shows c.directory_block.ensures.reads shows in
+    let yes = rw c.in-Some.is at c.in_ok-block.ensures.yes in
+    let told = c.in_ok-entry.ensures.told v looked in (
       c.in_ok-entry.entry,
       record {
-        directory = yes I content;
-        sound = c.in_ok-entry.ensures.sound I at_look_up;
-        first = c.in_ok-entry.ensures.found I at_look_up;
-        valid = sym (c.in_ok-is_valid_at.ensures.is I at_is_valid) ∙ c.if-not-branch.false;
+        directory = yes v shows;
+        sound = told.0;
+        first = told.1;
+        valid = sym (c.in_ok-is_valid_at.ensures.is v (still_shows c.look_up_in.ensures.reads looked)) ∙ c.if-not-branch.false;
       },
       refl,
     )

@@ -1,54 +1,56 @@
 -- One record more, or the bad one.
-use Rattle.std.proofs.Common.{◌+◌, ◌-◌, drop, get_or, sym, ◌∙◌, ap, subst, arith}
+use Rattle.std.proofs.Common.{rules, ◌+◌, ◌-◌, drop, get_or, sym, ◌∙◌, ap, subst, arith}
 use Rattle.std.proofs.lemmas.List.{drop_all}
 use Rattle.o2_model.specs.Words.{Apart}
 use Rattle.o2_model.specs.Extents.{read_records, records_in_block, with_met, with_seen}
-use Rattle.o2_extent.specs.Seen.{volume_seen}
+use Rattle.o2_model.specs.Extents.LeafRule.{ToClusters}
 use Rattle.o2_extent.specs.Readings.{Keeps, Within}
+use Rattle.o2_view.proofs.Shown.{still_shows}
 use Rattle.o2_extent.proofs.Steps.{first_left, entered_block}
-use Rattle.o2_extent.proofs.Views.{only_both, looks_both}
+use Rattle.o2_extent.proofs.Views.{only_both, looks_both, still_in}
 use Rattle.o2_extent.proofs.tree.+read_into.Goals as goal
 
+pub read_into-requires : goal.read_into-requires
+read_into-requires g t c κs within = (search rules, (search rules, (search rules, (omega arith, still_in c.requires.geo (only_both c.loop-r.invariant.reads c.enter.ensures.reads)))))
+
 pub returns-then-depth-eq0-clause-read : goal.returns-then-depth-eq0-clause-read
-returns-then-depth-eq0-clause-read g m c I told t k =
-    subst (λ d. Keeps c.read_leaves.new.reading (read_records (volume_seen c.args.geo.now I) c.args.most_flags d c.args.holder 0 c.args.records.now t)) (sym c.if-depth-eq0.true) (c.in_ok-read_leaves.ensures.read I t k)
+returns-then-depth-eq0-clause-read g m c v shows t k =
+    subst (λ d. Keeps c.read_leaves.new.reading (read_records v (ToClusters c.args.most_flags) d c.args.holder 0 c.args.records.now t)) (sym c.if-depth-eq0.true) (c.in_ok-read_leaves.ensures.read v shows.numbers t k)
 
 pub returns-in-None-clause-read : goal.returns-in-None-clause-read
-returns-in-None-clause-read g m c I told t k =
-    let v = volume_seen c.args.geo.now I in
+returns-in-None-clause-read g m c v shows t k =
     let rs = c.args.records.now in
     let i = c.loop-r.r-index in
-    let left = c.loop-r.invariant.read I told t k in
+    let left = c.loop-r.invariant.read v shows t k in
     let bad = rw c.in-None.is at c.in_ok-below.ensures.bad in
     subst (Keeps _)
     (sym (first_left v c.args.most_flags c.args.depth c.args.holder c.loop-r.low rs i _ left.now c.loop-r-test.true) ∙ left.gives)
-    (bad I (c.loop-r.invariant.reads.reads.content ∙ told) c.args.most_flags (drop (i + 1) rs) left.now left.keeps)
+    (bad v (still_shows c.loop-r.invariant.reads shows) c.args.most_flags (drop (i + 1) rs) left.now left.keeps)
 
 pub returns-clause-read : goal.returns-clause-read
-returns-clause-read g m c I told t k =
-    let left = c.loop-r.invariant.read I told t k in
+returns-clause-read g m c v shows t k =
+    let left = c.loop-r.invariant.read v shows t k in
     subst (Keeps c.loop-r.reading)
-    (sym (ap (λ rs. read_records (volume_seen c.args.geo.now I) c.args.most_flags c.args.depth c.args.holder c.loop-r.low rs left.now) (drop_all c.loop-r.r-index c.args.records.now c.loop-r-test.false)) ∙ left.gives)
+    (sym (ap (λ rs. read_records v (ToClusters c.args.most_flags) c.args.depth c.args.holder c.loop-r.low rs left.now) (drop_all c.loop-r.r-index c.args.records.now c.loop-r-test.false)) ∙ left.gives)
     left.keeps
 
 pub loop-r-preserved : goal.loop-r-preserved
 loop-r-preserved g m c = record {
-  read = λ I told t k.
-      let v = volume_seen c.args.geo.now I in
+  read = λ v shows t k.
       let rs = c.args.records.now in
       let i = c.loop-r.r-index in
       let depth = c.args.depth in
-      let left = c.loop-r.invariant.read I told t k in
-      let told1 = c.loop-r.invariant.reads.reads.content ∙ told in
-      let told2 = c.enter.ensures.reads.reads.content ∙ told1 in
+      let left = c.loop-r.invariant.read v shows t k in
+      let shows1 = still_shows c.loop-r.invariant.reads shows in
+      let shows2 = still_shows c.enter.ensures.reads shows1 in
       let good = rw c.in-Some.is at c.in_ok-below.ensures.good in
-      let enters = good I told1 left.now left.keeps in
+      let enters = good v shows1 left.now left.keeps in
       let r = get_or rs i _ in
       let met = with_met v r.blkno (with_seen left.now r.blkno) in
       let records = c.as_slice.ensures.value ∙ enters.records in
       record {
-        now = read_records v c.args.most_flags (depth - 1) r.blkno 0 (records_in_block v r.blkno) met;
-        keeps = rw records at (c.in_ok-read_into.ensures.read I told2 met enters.keeps);
+        now = read_records v (ToClusters c.args.most_flags) (depth - 1) r.blkno 0 (records_in_block v r.blkno) met;
+        keeps = rw records at (c.in_ok-read_into.ensures.read v shows2 met enters.keeps);
         gives = rw c.from-low.ensures
             (sym (entered_block v c.args.most_flags depth c.args.holder c.loop-r.low r (drop (i + 1) rs) left.now (omega arith) enters.names enters.is_one)
             ∙ (sym (first_left v c.args.most_flags depth c.args.holder c.loop-r.low rs i _ left.now c.loop-r-test.true) ∙ left.gives));

@@ -1,48 +1,46 @@
 -- A block that is looked at is new and in range.
-use Rattle.std.proofs.Common.{◌≡◌, ◌-◌, ◌^◌, [], true, false, sym, ◌∙◌, ap, subst, arith}
-use Rattle.o2_disk.specs.Image.{block_at}
+use Rattle.std.proofs.Common.{◌≡◌, ◌-◌, true, false, refl, sym, ◌∙◌, ap, subst, arith}
 use Rattle.o2_model.specs.Extents.{names_new_block, is_extent_block, with_seen}
 use Rattle.o2_model.proofs.Looks.{new_below}
-use Rattle.o2_extent.specs.Seen.{volume_seen}
+use Rattle.o2_view.specs.Geos.{bare}
 use Rattle.o2_extent.specs.Readings.{Keeps}
 use Rattle.o2_extent.proofs.Steps.{other_block, seen_apart}
 use Rattle.o2_extent.proofs.tree.enter.Goals as goal
 
 pub look-requires : goal.look-requires
 look-requires g c =
-    let names = sym (c.may_look.ensures []) ∙ c.if-not-may_look.false in
-    (omega arith, (c.requires.geo, omega (arith, new_below (volume_seen c.args.geo.now []) c.args.low c.args.reading.now.seen.items c.args.r.now names, c.requires.geo.within)))
+    let names = sym (c.may_look.ensures (bare c.args.geo.now) refl) ∙ c.if-not-may_look.false in
+    (omega arith, record { volume = c.requires.geo; inside = omega (arith, new_below (bare c.args.geo.now) c.args.low c.args.reading.now.seen.items c.args.r.now names, c.requires.geo.within) })
 
 pub returns-in_err-block-clause-apart : goal.returns-in_err-block-clause-apart
 returns-in_err-block-clause-apart g c =
-    seen_apart (volume_seen c.args.geo.now []) c.args.low _ _ _ c.args.r.now (sym (c.may_look.ensures []) ∙ c.if-not-may_look.false) c.requires.geo.within c.in_ok-add_seen.ensures.seen
+    seen_apart (bare c.args.geo.now) c.args.low _ _ _ c.args.r.now (sym (c.may_look.ensures (bare c.args.geo.now) refl) ∙ c.if-not-may_look.false) c.requires.geo.within c.in_ok-add_seen.ensures.seen
 
 pub returns-in_err-add_fault-2-clause-apart : goal.returns-in_err-add_fault-2-clause-apart
 returns-in_err-add_fault-2-clause-apart g c =
-    seen_apart (volume_seen c.args.geo.now []) c.args.low _ _ _ c.args.r.now (sym (c.may_look.ensures []) ∙ c.if-not-may_look.false) c.requires.geo.within
+    seen_apart (bare c.args.geo.now) c.args.low _ _ _ c.args.r.now (sym (c.may_look.ensures (bare c.args.geo.now) refl) ∙ c.if-not-may_look.false) c.requires.geo.within
     (ap (λ s. s.items) c.add_fault-then-not-has_extent_block.ensures.seen ∙ c.in_ok-add_seen.ensures.seen)
 
 pub returns-then-not-has_extent_block-clause-apart : goal.returns-then-not-has_extent_block-clause-apart
 returns-then-not-has_extent_block-clause-apart g c =
-    seen_apart (volume_seen c.args.geo.now []) c.args.low _ _ _ c.args.r.now (sym (c.may_look.ensures []) ∙ c.if-not-may_look.false) c.requires.geo.within
+    seen_apart (bare c.args.geo.now) c.args.low _ _ _ c.args.r.now (sym (c.may_look.ensures (bare c.args.geo.now) refl) ∙ c.if-not-may_look.false) c.requires.geo.within
     (ap (λ s. s.items) c.add_fault-then-not-has_extent_block.ensures.seen ∙ c.in_ok-add_seen.ensures.seen)
 
 pub returns-in_err-records-clause-apart : goal.returns-in_err-records-clause-apart
 returns-in_err-records-clause-apart g c =
-    seen_apart (volume_seen c.args.geo.now []) c.args.low _ _ _ c.args.r.now (sym (c.may_look.ensures []) ∙ c.if-not-may_look.false) c.requires.geo.within
+    seen_apart (bare c.args.geo.now) c.args.low _ _ _ c.args.r.now (sym (c.may_look.ensures (bare c.args.geo.now) refl) ∙ c.if-not-may_look.false) c.requires.geo.within
     (ap (λ s. s.items) c.meet.ensures.seen ∙ c.in_ok-add_seen.ensures.seen)
 
 pub returns-clause-apart : goal.returns-clause-apart
 returns-clause-apart g c =
-    seen_apart (volume_seen c.args.geo.now []) c.args.low _ _ _ c.args.r.now (sym (c.may_look.ensures []) ∙ c.if-not-may_look.false) c.requires.geo.within
+    seen_apart (bare c.args.geo.now) c.args.low _ _ _ c.args.r.now (sym (c.may_look.ensures (bare c.args.geo.now) refl) ∙ c.if-not-may_look.false) c.requires.geo.within
     (ap (λ s. s.items) c.meet.ensures.seen ∙ c.in_ok-add_seen.ensures.seen)
 
 pub returns-then-not-has_extent_block-clause-bad : goal.returns-then-not-has_extent_block-clause-bad
-returns-then-not-has_extent_block-clause-bad g c I told m rs t k =
-    let v = volume_seen c.args.geo.now I in
+returns-then-not-has_extent_block-clause-bad g c v shows m rs t k =
     let r = c.args.r.now in
-    let names : names_new_block v c.args.low t.seen r ≡ true = subst (λ s. names_new_block v c.args.low s r ≡ true) k.seen (sym (c.may_look.ensures I) ∙ c.if-not-may_look.false) in
-    let bytes : c.as_slice-bytes.result.now ≡ block_at (2 ^ c.args.geo.now.block_bits) I r.blkno = c.as_slice-bytes.ensures ∙ c.in_ok-block.ensures.bytes I told in
-    let bad : is_extent_block v (c.args.depth - 1) r.blkno ≡ false = sym (c.has_extent_block.ensures I bytes) ∙ c.if-not-has_extent_block.true in
+    let names : names_new_block v c.args.low t.seen r ≡ true = subst (λ s. names_new_block v c.args.low s r ≡ true) k.seen (sym (c.may_look.ensures v shows.numbers) ∙ c.if-not-may_look.false) in
+    let bytes : c.as_slice-bytes.result.now ≡ v.at r.blkno = c.as_slice-bytes.ensures ∙ c.in_ok-block.ensures.bytes v shows in
+    let bad : is_extent_block v (c.args.depth - 1) r.blkno ≡ false = sym (c.has_extent_block.ensures v shows.numbers bytes) ∙ c.if-not-has_extent_block.true in
     subst (Keeps _) (sym (other_block v m c.args.depth c.args.holder c.args.low r rs t c.requires.inner names bad))
     (c.in_ok-add_fault-2.ensures.added (with_seen t r.blkno) (c.in_ok-add_seen.ensures.added t k))
