@@ -2,7 +2,7 @@
 ghost use Rattle.std.specs.Prelude.{◌≡◌, ◌^◌, ◌≤◌, ◌&&◌, length, true, false, IfOk};
 ghost use Rattle.std.specs.Option.{IfNone, IfSome};
 ghost use Rattle.std.specs.Result.{IfErr};
-ghost use Rattle.o2_view.specs.Views.{Shows, OnlyReads};
+ghost use Rattle.o2_view.specs.Views.{Shows, ShowsBytes, OnlyReads};
 ghost use Rattle.o2_view.specs.Geos.{LiesIn, Reaches};
 ghost use Rattle.o2_view.specs.OwnChecks.{BlockFails};
 ghost use Rattle.o2_model.specs.Orders.{is_none_of};
@@ -56,9 +56,8 @@ fn has_sound_entries<D: Disk, const N: usize>(
     requires geo { LiesIn geo.now view.old }
     requires size { length bytes.now ≡ 2 ^ geo.now.block_bits }
     requires long { 512 ≤ length bytes.now }
-    requires holds { (v : Volume) → Shows view.old geo.now v → bytes.now ≡ v.at inode }
     requires directory { (v : Volume) → Shows view.old geo.now v → is_directory v inode ≡ true }
-    ensures has { IfOk result (λ has. (v : Volume) → Shows view.old geo.now v → has ≡ is_none_of (directory_faults v inode)) }
+    ensures has { IfOk result (λ has. (v : Volume) → ShowsBytes view.old geo.now inode bytes.now v → has ≡ is_none_of (directory_faults v inode)) }
     ensures reads { OnlyReads view.old view.new }
     ensures fails { IfErr result (BlockFails view.old view.new) }
 {

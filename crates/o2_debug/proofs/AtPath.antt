@@ -8,7 +8,7 @@ use Rattle.o2_dir.specs.Paths.{Begins, Leads}
 use Rattle.o2_check.specs.Skeleton.{HasSkeleton}
 use Rattle.o2_debug.specs.declared.query.Query.{Query}
 use Rattle.o2_debug.specs.Answers.{path_of, text_of, IsAnswerable}
-use Rattle.o2_debug.specs.Commands.{PathLeads, IsAnswerText}
+use Rattle.o2_debug.specs.Commands.{HasStart, PathLeads, IsAnswerText}
 use Rattle.o2_debug.proofs.Starts.{valid_root, valid_sysdir}
 
 -- the names of what follows the beginning of a path
@@ -48,14 +48,18 @@ along : (v : Volume) (names : List (List ℕ)) (start i : ℕ) → is_valid v st
 along v [] start i valid leads = subst (λ (b : ℕ). is_valid v b ≡ true) (sym leads) valid
 along v (n ∷ names) start i valid leads = along v names leads.0.inode i leads.1.valid leads.2
 
+-- where paths begin, a sound skeleton has valid dinodes
 start_is_valid : (v : Volume) (text : List ℕ) (start : ℕ) (names : List (List ℕ)) → HasSkeleton v → Begins v.geo text start names → is_valid v start ≡ true
 start_is_valid v text start names skeleton (inl root) = subst (λ (b : ℕ). is_valid v b ≡ true) (sym root.0) (valid_root v skeleton)
 start_is_valid v text start names skeleton (inr system) = subst (λ (b : ℕ). is_valid v b ≡ true) (sym system.0) (valid_sysdir v skeleton)
 
-pub leads_to_valid : (query : Query) (v : Volume) (b : ℕ) → IsPath (path_of query) → HasSkeleton v → PathLeads query v b → is_valid v b ≡ true
-leads_to_valid query v b path skeleton leads =
+pub has_start : (query : Query) (v : Volume) → HasSkeleton v → HasStart query v
+has_start query v skeleton start names begins = start_is_valid v (path_of query) start names skeleton begins
+
+pub leads_to_valid : (query : Query) (v : Volume) (b : ℕ) → IsPath (path_of query) → HasStart query v → PathLeads query v b → is_valid v b ≡ true
+leads_to_valid query v b path valid leads =
     let from = beginning v.geo (path_of query) path in
-    along v from.names from.start b (start_is_valid v (path_of query) from.start from.names skeleton from.begins) (leads from.start from.names from.begins)
+    along v from.names from.start b (valid from.start from.names from.begins) (leads from.start from.names from.begins)
 
 -- the same beginning, by other names for the numbers and for the path
 pub same_beginning : (query : Query) (v : Volume) (geo : Geo) (text : List ℕ) (start : ℕ) (names : List (List ℕ)) → v.geo ≡ geo → text ≡ path_of query → Begins v.geo (path_of query) start names → Begins geo text start names

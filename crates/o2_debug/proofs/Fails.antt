@@ -1,5 +1,6 @@
 -- The fault of one call as that of the call around it.
-use Rattle.std.proofs.Common.{inr, ℕ, ◌≤◌, List}
+use Rattle.std.proofs.Common.{◌≡◌, inl, inr, ℕ, ◌≤◌, List, sym, subst, Result, Ok, Err}
+use Rattle.std.specs.Result.{IfErr, IsErrAnd}
 use Rattle.o2_disk.specs.Device.{DiskState}
 use Rattle.o2_disk.specs.Output.{SinkState}
 use Rattle.o2_disk.specs.declared.disk.Disk as disk
@@ -9,17 +10,21 @@ use Rattle.o2_model.specs.declared.geo.Geo.{Geo}
 use Rattle.o2_view.specs.OwnChecks.{OwnCheck, IsOwn, FailsFirst}
 use Rattle.o2_view.specs.Views.{view_state, Shows, OnlyReads}
 use Rattle.o2_view.specs.declared.view.View.{View}
+use Rattle.o2_view.proofs.Faults.{rose_before}
 use Rattle.o2_view.proofs.Shown.{still_shows}
+use Rattle.o2_dir.specs.Paths.{OnPath, PathFails}
+use Rattle.o2_dir.specs.declared.fault.PathFault.{PathFault}
+use Rattle.o2_dir.specs.declared.fault.PathFault.TheVariants as path
 use Rattle.o2_check.specs.Skeleton.{HasSkeleton}
-use Rattle.o2_debug.specs.Answers.{text_of, AnswersSome, IsOfOtherKind}
+use Rattle.o2_debug.specs.Answers.{path_of, text_of, AnswersSome, IsOfOtherKind}
 use Rattle.o2_debug.specs.Commands.{PathLeads}
-use Rattle.o2_debug.specs.Fails.{LinesFail, AnswerFails, QueryFails}
+use Rattle.o2_debug.specs.Fails.{LinesFail, AnswerFails, AnswerFailsAt, QueryFails}
+use Rattle.o2_debug.specs.Faults.{IsOfPath}
 use Rattle.o2_debug.specs.Objects.{query_checks}
 use Rattle.o2_debug.specs.declared.fault.DebugFault.{DebugFault}
 use Rattle.o2_debug.specs.declared.fault.DebugFault.TheVariants as debug
 use Rattle.o2_debug.specs.declared.query.Query.{Query}
-use Rattle.o2_debug.proofs.AtPath.{answer_text}
-use Rattle.o2_debug.proofs.Rises.{rose_before}
+use Rattle.o2_debug.proofs.AtPath.{same_beginning, answer_text}
 
 module _ {D : Type 0} {N : ℕ} {g : disk.Ghosts D} where
   -- ---- of a text
@@ -49,20 +54,47 @@ module _ {D : Type 0} {N : ℕ} {g : disk.Ghosts D} where
       (fails.0, record { own = own check fails.1.own; first = λ v shows. first v shows check b (fails.1.first v (still_shows only shows)) })
 
   -- ---- of a query
-  module _ (old : View D N g) (geo : Geo) (query : Query) (skeleton : (v : Volume) → Shows old geo v → HasSkeleton v) where
-    -- the inode that it leads to has no answer
-    pub end_fails : {mid : View D N g} (new : View D N g) (before after : SinkState) (kept : Type 0) (b : ℕ) → OnlyReads old mid → ((v : Volume) → Shows old geo v → PathLeads query v b) → (fault : DebugFault)
-        → AnswerFails mid new geo (query_checks query b) before after kept (λ v. AnswersSome query v b before after) ((v : Volume) → Shows mid geo v → IsOfOtherKind query v b) fault
-        → QueryFails (Shows old geo) (view_state old) (view_state new) query before after kept fault
-    end_fails new before after kept b only leads debug.NoMemory fails = tt
-    end_fails {mid} new before after kept b only leads debug.DeviceFault fails = rose_before (view_state old).faults (view_state mid).faults (view_state new).faults only.later fails
-    end_fails new before after kept b only leads debug.OutputFault fails =
-        (fails.0, λ v shows. let some = fails.1 v (still_shows only shows) in (skeleton v shows, (text_of query v b, (answer_text query v b (leads v shows) some.answered, some.some))))
-    end_fails new before after kept b only leads debug.Absent fails = absurd fails
-    end_fails new before after kept b only leads debug.WrongKind fails =
-        (fails.0, λ v shows. (skeleton v shows, λ start names begins. inr (b, (leads v shows start names begins, fails.1 v (still_shows only shows)))))
-    end_fails new before after kept b only leads (debug.Bad check at) fails =
-        (fails.0, λ v shows. inr (skeleton v shows, λ start names begins. inr (b, (leads v shows start names begins, fails.1.first v (still_shows only shows)))))
+  -- its path leads nowhere, and so nothing is put
+  path_fault : (old new : View D N g) (geo : Geo) (query : Query) (text : List ℕ) (before : SinkState) (kept : Type 0) → kept → text ≡ path_of query → (fault : PathFault) → PathFails old new (OnPath old geo text) fault
+      → (given : DebugFault) → IsOfPath fault given → AnswerFailsAt (Shows old geo) (view_state old) (view_state new) query before before kept given
+  path_fault old new geo query text before kept none is path.NoMemory fails given same = subst (AnswerFailsAt (Shows old geo) (view_state old) (view_state new) query before before kept) (sym same) tt
+  path_fault old new geo query text before kept none is path.DeviceFault fails given same = subst (AnswerFailsAt (Shows old geo) (view_state old) (view_state new) query before before kept) (sym same) fails
+  path_fault old new geo query text before kept none is (path.Bad check b) fails given same =
+      subst (AnswerFailsAt (Shows old geo) (view_state old) (view_state new) query before before kept) (sym same)
+      (none, λ v shows start names begins. inl (fails.1 v shows start names (same_beginning query v geo text start names shows.numbers is begins)))
+  path_fault old new geo query text before kept none is path.Absent fails given same =
+      subst (AnswerFailsAt (Shows old geo) (view_state old) (view_state new) query before before kept) (sym same)
+      (none, λ v shows start names begins. fails v shows start names (same_beginning query v geo text start names shows.numbers is begins))
+  path_fault old new geo query text before kept none is path.WrongKind fails given same =
+      subst (AnswerFailsAt (Shows old geo) (view_state old) (view_state new) query before before kept) (sym same)
+      (none, λ v shows start names begins. inl (fails v shows start names (same_beginning query v geo text start names shows.numbers is begins)))
+
+  pub path_fails : {A : Type 0} (r : Result A DebugFault) (old new : View D N g) (geo : Geo) (query : Query) (text : List ℕ) (before : SinkState) (kept : Type 0) → kept → text ≡ path_of query
+      → (fault : PathFault) → PathFails old new (OnPath old geo text) fault → IsErrAnd r (IsOfPath fault) → IfErr r (AnswerFailsAt (Shows old geo) (view_state old) (view_state new) query before before kept)
+  path_fails (Ok x) old new geo query text before kept none is fault fails same = tt
+  path_fails (Err given) old new geo query text before kept none is fault fails same = path_fault old new geo query text before kept none is fault fails given same
+
+  -- the inode that its path leads to has no answer
+  pub end_fails : {old mid : View D N g} (new : View D N g) (geo : Geo) (query : Query) (before after : SinkState) (kept : Type 0) (b : ℕ) → OnlyReads old mid → ((v : Volume) → Shows old geo v → PathLeads query v b) → (fault : DebugFault)
+      → AnswerFails mid new geo (query_checks query b) before after kept (λ v. AnswersSome query v b before after) ((v : Volume) → Shows mid geo v → IsOfOtherKind query v b) fault
+      → AnswerFailsAt (Shows old geo) (view_state old) (view_state new) query before after kept fault
+  end_fails new geo query before after kept b only leads debug.NoMemory fails = tt
+  end_fails {old} {mid} new geo query before after kept b only leads debug.DeviceFault fails = rose_before (view_state old).faults (view_state mid).faults (view_state new).faults only.later fails
+  end_fails new geo query before after kept b only leads debug.OutputFault fails =
+      (fails.0, λ v shows. let some = fails.1 v (still_shows only shows) in (text_of query v b, (answer_text query v b (leads v shows) some.answered, some.some)))
+  end_fails new geo query before after kept b only leads debug.Absent fails = absurd fails
+  end_fails new geo query before after kept b only leads debug.WrongKind fails = (fails.0, λ v shows start names begins. inr (b, (leads v shows start names begins, fails.1 v (still_shows only shows))))
+  end_fails new geo query before after kept b only leads (debug.Bad check at) fails = (fails.0, λ v shows start names begins. inr (b, (leads v shows start names begins, fails.1.first v (still_shows only shows))))
+
+-- the path is followed where the skeleton is sound, on a device that may have failed before
+pub skeleton_fails : (Was Is : Volume → Type 0) (old mid new : DiskState) (query : Query) (before after : SinkState) (kept : Type 0) → old.faults ≤ mid.faults → ((v : Volume) → Is v → Was v) → ((v : Volume) → Is v → HasSkeleton v)
+    → (fault : DebugFault) → AnswerFailsAt Was mid new query before after kept fault → QueryFails Is old new query before after kept fault
+skeleton_fails Was Is old mid new query before after kept later was skeleton debug.NoMemory fails = tt
+skeleton_fails Was Is old mid new query before after kept later was skeleton debug.DeviceFault fails = rose_before old.faults mid.faults new.faults later fails
+skeleton_fails Was Is old mid new query before after kept later was skeleton debug.OutputFault fails = (fails.0, λ v is. (skeleton v is, fails.1 v (was v is)))
+skeleton_fails Was Is old mid new query before after kept later was skeleton debug.Absent fails = (fails.0, λ v is. (skeleton v is, fails.1 v (was v is)))
+skeleton_fails Was Is old mid new query before after kept later was skeleton debug.WrongKind fails = (fails.0, λ v is. (skeleton v is, fails.1 v (was v is)))
+skeleton_fails Was Is old mid new query before after kept later was skeleton (debug.Bad check b) fails = (fails.0, λ v is. inr (skeleton v is, fails.1 v (was v is)))
 
 -- where the volumes that are meant now are among those that were, and the device may have failed before
 pub query_fails : (Was Is : Volume → Type 0) (old mid new : DiskState) (query : Query) (before after : SinkState) (kept : Type 0) → old.faults ≤ mid.faults → ((v : Volume) → Is v → Was v)

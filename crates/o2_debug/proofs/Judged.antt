@@ -12,18 +12,17 @@ use Rattle.o2_model.specs.Faults.{fails_unless}
 use Rattle.o2_model.specs.Volume.{Volume, dinode}
 use Rattle.o2_model.specs.Inodes.{kind}
 use Rattle.o2_model.specs.Checks.InodeKind.{has_kind, inode_kind_faults}
-use Rattle.o2_view.specs.OwnChecks.{NoneFails, FailsFirst, ReadFails}
+use Rattle.o2_view.specs.OwnChecks.{NoneFails, FailsFirst, ReadFails, ReadFailsOf}
 use Rattle.o2_view.specs.Views.{view_state, Shows, OnlyReads}
 use Rattle.o2_view.specs.declared.fault.ReadFault.{ReadFault}
 use Rattle.o2_view.specs.declared.fault.ReadFault.TheVariants as read
 use Rattle.o2_view.specs.declared.view.View.{View}
-use Rattle.o2_view.proofs.Shown.{still_shows}
+use Rattle.o2_view.proofs.Faults.{rose_before}
 use Rattle.o2_dir.specs.Fails.{data_checks}
 use Rattle.o2_dir.specs.InodeReadings.{TellsSound}
 use Rattle.o2_dir.specs.declared.inode_reading.InodeReading.{InodeReading}
 use Rattle.o2_dir.proofs.Whole.{fails_there}
 use Rattle.o2_debug.specs.Objects.{object_checks}
-use Rattle.o2_debug.proofs.Rises.{rose_before}
 
 -- ---- kinds
 -- an inode of some kind does not fail for it
@@ -56,8 +55,8 @@ pub of_own_number : (v : Volume) (b : ℕ) (reading : InodeReading) → TellsSou
 of_own_number v b reading tells = subst (λ (n : ℕ). TellsSound v n reading) (sym tells.number) tells
 
 -- what fails for its bytes is the first that fails for it
-pub reading_fails : {D : Type 0} {N : ℕ} {g : disk.Ghosts D} {old mid : View D N g} (new : View D N g) (geo : Geo) (b : ℕ) → OnlyReads old mid → ((v : Volume) → Shows old geo v → IsSome (kind v b))
-    → (fault : ReadFault) → ReadFails mid new geo (data_checks b) fault → ReadFails old new geo (object_checks b) fault
-reading_fails new geo b only some read.NoMemory fails = tt
-reading_fails {D} {N} {g} {old} {mid} new geo b only some read.DeviceFault fails = rose_before (view_state old).faults (view_state mid).faults (view_state new).faults only.later fails
-reading_fails new geo b only some (read.Bad check at) fails = record { own = inr fails.own; first = λ v shows. inr (has_kind_of v b (some v shows), fails.first v (still_shows only shows)) }
+pub reading_fails : {D : Type 0} {N : ℕ} {g : disk.Ghosts D} {old mid : View D N g} (new : View D N g) (geo : Geo) (b : ℕ) {Of : Volume → Type 0} → OnlyReads old mid → ((v : Volume) → Shows old geo v → Of v)
+    → ((v : Volume) → Shows old geo v → IsSome (kind v b)) → (fault : ReadFault) → ReadFailsOf Of mid new (data_checks b) fault → ReadFails old new geo (object_checks b) fault
+reading_fails new geo b only among some read.NoMemory fails = tt
+reading_fails {D} {N} {g} {old} {mid} new geo b only among some read.DeviceFault fails = rose_before (view_state old).faults (view_state mid).faults (view_state new).faults only.later fails
+reading_fails new geo b only among some (read.Bad check at) fails = record { own = inr fails.own; first = λ v shows. inr (has_kind_of v b (some v shows), fails.first v (among v shows)) }

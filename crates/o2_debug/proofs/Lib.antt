@@ -3,7 +3,6 @@ pub mod AtPath
 pub mod CatLemmas
 pub mod Fails
 pub mod Judged
-pub mod Rises
 pub mod Starts
 pub mod TextLemmas
 pub mod WholeDevice

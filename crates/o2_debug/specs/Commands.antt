@@ -1,14 +1,18 @@
 -- The answer to a query by its path.
-use Rattle.std.specs.Prelude.{◌≡◌, ◌⊎◌, ℕ, List}
+use Rattle.std.specs.Prelude.{◌≡◌, ◌⊎◌, ℕ, true, List}
 use Rattle.o2_disk.specs.Output.{SinkState}
 use Rattle.o2_model.specs.declared.check.Check.{Check}
-use Rattle.o2_model.specs.Volume.{Volume}
+use Rattle.o2_model.specs.Volume.{Volume, is_valid}
 use Rattle.o2_view.specs.OwnChecks.{FailsFirst}
 use Rattle.o2_dir.specs.Paths.{Begins, Leads, OnTheWay, Lacks, IsNoDirectory, FailsAt}
 use Rattle.o2_debug.specs.declared.query.Query.{Query}
 use Rattle.o2_debug.specs.Objects.{query_checks}
 use Rattle.o2_debug.specs.Answers.{path_of, text_of, IsAnswerable, IsOfOtherKind}
 use Rattle.o2_cause.specs.Taken.{Takes, TakesSome}
+
+-- the inode at which the query's path begins is a valid dinode
+abbrev pub HasStart : Query → Volume → Type 0
+HasStart query v = (start : ℕ) (names : List (List ℕ)) → Begins v.geo (path_of query) start names → is_valid v start ≡ true
 
 -- the query's path leads to this inode
 abbrev pub PathLeads : Query → Volume → ℕ → Type 0
@@ -28,6 +32,10 @@ AnswersAt query v old new = (text : List ℕ) × (IsAnswerText query v text × T
 -- or its first bytes, maybe none or all
 abbrev pub AnswersSomeAt : Query → Volume → SinkState → SinkState → Type 0
 AnswersSomeAt query v old new = (text : List ℕ) × (IsAnswerText query v text × TakesSome old new text)
+
+-- nothing was put, or first bytes of a text that answers the query
+abbrev pub BeginsAnswerAt : Query → Volume → SinkState → SinkState → Type 0
+BeginsAnswerAt query v old new = (new ≡ old) ⊎ AnswersSomeAt query v old new
 
 -- a name of the path has no live entry
 abbrev pub IsAbsent : Query → Volume → Type 0

@@ -31,7 +31,16 @@ module _ {D : Type 0} {N : ℕ} {g : disk.Ghosts D} where
   AnswerFails old new geo checks before after kept part other debug.WrongKind = kept × other
   AnswerFails old new geo checks before after kept part other (debug.Bad check b) = kept × IsBad old geo checks check b
 
--- Why a query was not answered, or not to its end. `Seen` says which volume is meant, and `kept` that nothing was put.
+-- Why a query was not answered by its path, or not to its end. `Seen` says which volume is meant, and `kept` that nothing was put.
+abbrev pub AnswerFailsAt : (Volume → Type 0) → DiskState → DiskState → Query → SinkState → SinkState → Type 0 → DebugFault → Type 0
+AnswerFailsAt Seen old new query before after kept debug.NoMemory = Unit {0}
+AnswerFailsAt Seen old new query before after kept debug.DeviceFault = Rose old.faults new.faults
+AnswerFailsAt Seen old new query before after kept debug.OutputFault = FailsLast before after × ((v : Volume) → Seen v → AnswersSomeAt query v before after)
+AnswerFailsAt Seen old new query before after kept debug.Absent = kept × ((v : Volume) → Seen v → IsAbsent query v)
+AnswerFailsAt Seen old new query before after kept debug.WrongKind = kept × ((v : Volume) → Seen v → IsOfWrongKind query v)
+AnswerFailsAt Seen old new query before after kept (debug.Bad check b) = kept × ((v : Volume) → Seen v → FailsOn query v check b)
+
+-- The same, where the skeleton of the volume is judged first.
 abbrev pub QueryFails : (Volume → Type 0) → DiskState → DiskState → Query → SinkState → SinkState → Type 0 → DebugFault → Type 0
 QueryFails Seen old new query before after kept debug.NoMemory = Unit {0}
 QueryFails Seen old new query before after kept debug.DeviceFault = Rose old.faults new.faults

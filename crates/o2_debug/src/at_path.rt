@@ -1,14 +1,13 @@
 // The answer to a query, for the inode that its path leads to.
-ghost use Rattle.std.specs.Prelude.{◌≡◌, ◌⊎◌, OnOk, IsErrOf};
+ghost use Rattle.std.specs.Prelude.{◌≡◌, OnOk, IsErrOf};
 ghost use Rattle.std.specs.Result.{IfErr};
 ghost use Rattle.o2_view.specs.Views.{view_state, Shows, OnlyReads};
 ghost use Rattle.o2_view.specs.Geos.{LiesIn};
 ghost use Rattle.o2_model.specs.Volume.{Volume};
 ghost use Rattle.o2_dir.specs.PathTexts.{IsPath};
-ghost use Rattle.o2_check.specs.Skeleton.{HasSkeleton};
 ghost use Rattle.o2_debug.specs.Answers.{path_of};
-ghost use Rattle.o2_debug.specs.Commands.{AnswersAt, AnswersSomeAt};
-ghost use Rattle.o2_debug.specs.Fails.{QueryFails};
+ghost use Rattle.o2_debug.specs.Commands.{HasStart, AnswersAt, BeginsAnswerAt};
+ghost use Rattle.o2_debug.specs.Fails.{AnswerFailsAt};
 
 use crate::last_object::answer;
 use crate::{DebugFault, Query};
@@ -31,7 +30,7 @@ impl Query {
     }
 }
 
-/// Answers a query on a volume whose skeleton is sound. The faults of the path come first, and then those of the inode that it
+/// Answers a query whose path begins at a valid dinode. The faults of the path come first, and then those of the inode that it
 /// leads to.
 pub fn answer_at_path<D: Disk, K: Sink, const N: usize>(
     alloc: Global,
@@ -42,12 +41,11 @@ pub fn answer_at_path<D: Disk, K: Sink, const N: usize>(
 ) -> Result<(), DebugFault>
     requires geo { LiesIn geo.now view.old }
     requires path { IsPath (path_of query.now) }
-    requires skeleton { (v : Volume) → Shows view.old geo.now v → HasSkeleton v }
-    ensures told { OnOk result ((v : Volume) → Shows view.old geo.now v → HasSkeleton v × AnswersAt query.now v (K.state out.old) (K.state out.new)) }
-    ensures some { (v : Volume) → Shows view.old geo.now v
-        → (K.state out.new ≡ K.state out.old) ⊎ (HasSkeleton v × AnswersSomeAt query.now v (K.state out.old) (K.state out.new)) }
+    requires start { (v : Volume) → Shows view.old geo.now v → HasStart query.now v }
+    ensures told { OnOk result ((v : Volume) → Shows view.old geo.now v → AnswersAt query.now v (K.state out.old) (K.state out.new)) }
+    ensures some { (v : Volume) → Shows view.old geo.now v → BeginsAnswerAt query.now v (K.state out.old) (K.state out.new) }
     ensures reads { OnlyReads view.old view.new }
-    ensures fails { IfErr result (QueryFails (Shows view.old geo.now) (view_state view.old) (view_state view.new) query.now (K.state out.old) (K.state out.new)
+    ensures fails { IfErr result (AnswerFailsAt (Shows view.old geo.now) (view_state view.old) (view_state view.new) query.now (K.state out.old) (K.state out.new)
         (out.new ≡ out.old)) }
     ensures quiet { (IsErrOf result DebugFault.OutputFault → ⊥) → (K.state out.new).faults ≡ (K.state out.old).faults }
 {

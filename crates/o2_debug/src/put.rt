@@ -1,5 +1,5 @@
 // The text of `ls` and of `stat`, put on a sink.
-ghost use Rattle.std.specs.Prelude.{◌≡◌, ◌⊎◌, true, OnOk, IsErrOf};
+ghost use Rattle.std.specs.Prelude.{◌≡◌, ◌⊎◌, true, OnOk, OnErr, IsErrOf};
 ghost use Rattle.std.specs.List.{concat};
 ghost use Rattle.std.specs.Result.{IfErr};
 ghost use Rattle.o2_view.specs.Views.{Shows, OnlyReads};
@@ -27,6 +27,7 @@ use std::alloc::Global;
 fn put_all<K: Sink>(out: &mut K, lines: &Lines) -> Result<(), DebugFault>
     ensures told { OnOk result (Takes (K.state out.old) (K.state out.new) (concat lines.now)) }
     ensures some { TakesSome (K.state out.old) (K.state out.new) (concat lines.now) }
+    ensures cause { OnErr result (IsErrOf result DebugFault.OutputFault) }
     ensures fails { IfErr result (LinesFail (K.state out.old) (K.state out.new)) }
     ensures quiet { (IsErrOf result DebugFault.OutputFault → ⊥) → (K.state out.new).faults ≡ (K.state out.old).faults }
 {

@@ -11,7 +11,7 @@ use Rattle.o2_model.specs.Inodes.{is_directory, is_inline, leaf_records}
 use Rattle.o2_model.specs.Checks.Extent.{extent_faults}
 use Rattle.o2_model.specs.Checks.InodeSize.{inode_size_faults}
 use Rattle.o2_model.specs.Checks.DirBlock.{dir_block_faults}
-use Rattle.o2_view.specs.OwnChecks.{OwnCheck, NoneFails, IsBad}
+use Rattle.o2_view.specs.OwnChecks.{OwnCheck, NoneFails, IsBadOf}
 use Rattle.o2_view.specs.Views.{view_state, Shows}
 use Rattle.o2_view.specs.declared.view.View.{View}
 use Rattle.o2_dir.specs.declared.fault.DirFault.{DirFault}
@@ -33,16 +33,25 @@ directory_checks d =
     ∷ []
 
 module _ {D : Type 0} {N : ℕ} {g : disk.Ghosts D} where
-  -- why entries were not read: one of these checks fails too, and where no entry has the name, this holds
-  abbrev pub DirFails : View D N g → View D N g → Geo → List OwnCheck → Type 0 → DirFault → Type 0
-  DirFails old new geo checks absent dir.NoMemory = Unit {0}
-  DirFails old new geo checks absent dir.DeviceFault = Rose (view_state old).faults (view_state new).faults
-  DirFails old new geo checks absent (dir.Bad check b) = IsBad old geo checks check b
-  DirFails old new geo checks absent dir.Absent = absent
+  -- why entries were not read: of each such volume one of these checks fails too, and where no entry has the name, this holds
+  abbrev pub DirFailsOf : (Volume → Type 0) → View D N g → View D N g → List OwnCheck → Type 0 → DirFault → Type 0
+  DirFailsOf Of old new checks absent dir.NoMemory = Unit {0}
+  DirFailsOf Of old new checks absent dir.DeviceFault = Rose (view_state old).faults (view_state new).faults
+  DirFailsOf Of old new checks absent (dir.Bad check b) = IsBadOf Of checks check b
+  DirFailsOf Of old new checks absent dir.Absent = absent
 
-  -- no live entry has the name, and nothing is wrong with the directory
+  -- the same of each volume that the view shows
+  abbrev pub DirFails : View D N g → View D N g → Geo → List OwnCheck → Type 0 → DirFault → Type 0
+  DirFails old new geo checks absent fault = DirFailsOf (Shows old geo) old new checks absent fault
+
+-- in each such volume no live entry has the name, and nothing is wrong with the directory
+abbrev pub HasNoneOf : (Volume → Type 0) → ℕ → List ℕ → Type 0
+HasNoneOf Of d name = (v : Volume) → Of v → NoneFails (directory_checks d) v × (first_named v d name ≡ None)
+
+module _ {D : Type 0} {N : ℕ} {g : disk.Ghosts D} where
+  -- in each volume that the view shows
   abbrev pub HasNone : View D N g → Geo → ℕ → List ℕ → Type 0
-  HasNone view geo d name = (v : Volume) → Shows view geo v → NoneFails (directory_checks d) v × (first_named v d name ≡ None)
+  HasNone view geo d name = HasNoneOf (Shows view geo) d name
 
 -- an inode whose block has these bytes, and whose extents are well formed, with these leaf records
 pub record IsRead (v : Volume) (d : ℕ) (bytes : List ℕ) (leaves : List Leaf) : Type 0 where
@@ -64,3 +73,14 @@ pub record IsInline (v : Volume) (d size : ℕ) (bytes : List ℕ) : Type 0 wher
   pub sound : extent_faults v d ≡ []
   pub tells : size ≡ (dinode v d).size
   pub holds : bytes ≡ v.at d
+
+module _ {D : Type 0} {N : ℕ} {g : disk.Ghosts D} where
+  -- The view shows the volume, in which the inode has these bytes and these records.
+  pub record ShowsRead (view : View D N g) (geo : Geo) (d : ℕ) (bytes : List ℕ) (leaves : List Leaf) (v : Volume) : Type 0 where
+    pub shows : Shows view geo v
+    pub read : IsRead v d bytes leaves
+
+  -- The view shows the volume, in which these records map the blocks of the directory.
+  pub record ShowsMapped (view : View D N g) (geo : Geo) (d size : ℕ) (leaves : List Leaf) (v : Volume) : Type 0 where
+    pub shows : Shows view geo v
+    pub mapped : IsMapped v d size leaves

@@ -1,14 +1,14 @@
 // The entries of a directory.
 ghost use Rattle.std.specs.Prelude.{◌≡◌, ◌^◌, ◌≤◌, length, true, IfOk};
 ghost use Rattle.std.specs.Result.{IfErr};
-ghost use Rattle.o2_view.specs.Views.{Shows, OnlyReads};
+ghost use Rattle.o2_view.specs.Views.{Shows, ShowsBytes, OnlyReads};
 ghost use Rattle.o2_view.specs.Geos.{LiesIn, Reaches};
 ghost use Rattle.o2_view.specs.OwnChecks.{NoneFails};
 ghost use Rattle.o2_model.specs.Inodes.{is_directory};
 ghost use Rattle.o2_model.specs.Directories.{directory_entries};
 ghost use Rattle.o2_model.specs.Volume.{Volume};
 ghost use Rattle.o2_extent.specs.Readings.{Within};
-ghost use Rattle.o2_dir.specs.Fails.{DirFails, IsRead, directory_checks};
+ghost use Rattle.o2_dir.specs.Fails.{DirFails, DirFailsOf, ShowsRead, directory_checks};
 ghost use Rattle.o2_dir.specs.InodeReadings.{Fits, TellsSound};
 
 use crate::inline_directory::inlined;
@@ -34,11 +34,11 @@ fn entries_by<D: Disk, const N: usize>(
     requires size { length bytes.now ≡ 2 ^ geo.now.block_bits }
     requires long { 512 ≤ length bytes.now }
     requires within { Within geo.now leaves.now }
-    requires read { (v : Volume) → Shows view.old geo.now v → IsRead v inode bytes.now leaves.now }
     requires directory { (v : Volume) → Shows view.old geo.now v → is_directory v inode ≡ true }
-    ensures told { IfOk result (λ entries. (v : Volume) → Shows view.old geo.now v → NoneFails (directory_checks inode) v × (entries ≡ directory_entries v inode)) }
+    ensures told { IfOk result (λ entries. (v : Volume) → ShowsRead view.old geo.now inode bytes.now leaves.now v
+        → NoneFails (directory_checks inode) v × (entries ≡ directory_entries v inode)) }
     ensures reads { OnlyReads view.old view.new }
-    ensures fails { IfErr result (DirFails view.old view.new geo.now (directory_checks inode) ⊥) }
+    ensures fails { IfErr result (DirFailsOf (ShowsRead view.old geo.now inode bytes.now leaves.now) view.old view.new (directory_checks inode) ⊥) }
 {
     let dinode = read_dinode(bytes);
     if is_inline(&dinode) {
@@ -58,11 +58,11 @@ pub fn entries_in<D: Disk, const N: usize>(
     requires geo { LiesIn geo.now view.old }
     requires size { length bytes.now ≡ 2 ^ geo.now.block_bits }
     requires long { 512 ≤ length bytes.now }
-    requires holds { (v : Volume) → Shows view.old geo.now v → bytes.now ≡ v.at inode }
     requires directory { (v : Volume) → Shows view.old geo.now v → is_directory v inode ≡ true }
-    ensures told { IfOk result (λ entries. (v : Volume) → Shows view.old geo.now v → NoneFails (directory_checks inode) v × (entries ≡ directory_entries v inode)) }
+    ensures told { IfOk result (λ entries. (v : Volume) → ShowsBytes view.old geo.now inode bytes.now v
+        → NoneFails (directory_checks inode) v × (entries ≡ directory_entries v inode)) }
     ensures reads { OnlyReads view.old view.new }
-    ensures fails { IfErr result (DirFails view.old view.new geo.now (directory_checks inode) ⊥) }
+    ensures fails { IfErr result (DirFailsOf (ShowsBytes view.old geo.now inode bytes.now) view.old view.new (directory_checks inode) ⊥) }
 {
     let leaves = records_in(alloc, view, geo, inode, bytes)?;
     entries_by(alloc, view, geo, inode, bytes, leaves.as_slice())

@@ -8,7 +8,6 @@ ghost use Rattle.o2_view.specs.OwnChecks.{BlockFails, ReadFails, NoneFails};
 ghost use Rattle.o2_model.specs.Contents.{byte_of, bytes_of};
 ghost use Rattle.o2_model.specs.Volume.{Volume};
 ghost use Rattle.o2_extent.specs.Readings.{Within};
-ghost use Rattle.o2_extent.specs.Rising.{AreRising};
 ghost use Rattle.o2_dir.specs.Fails.{IsRead, data_checks};
 ghost use Rattle.o2_dir.specs.FileData.{HasBytes};
 ghost use Rattle.o2_dir.specs.InodeReadings.{Fits, TellsSound};
@@ -16,7 +15,7 @@ ghost use Rattle.o2_dir.specs.InodeReadings.{Fits, TellsSound};
 use crate::inode_reading::{InodeReading, sound_inode_in};
 use crate::parts::{behind, first};
 use o2_disk::Disk;
-use o2_extent::{Leaf, add_bytes, is_fast_link, is_inline, look};
+use o2_extent::{OrderedLeaves, add_bytes, is_fast_link, is_inline, look};
 use o2_model::Geo;
 use o2_ondisk::read_dinode;
 use o2_view::{Bytes, ReadFault, View, ViewFault};
@@ -54,14 +53,14 @@ fn read_mapped<D: Disk, const N: usize>(
     alloc: Global,
     view: &mut View<'_, D, N>,
     geo: &Geo,
-    leaves: &[Leaf],
+    leaves: &OrderedLeaves,
     size: u64,
     at: u64,
     len: u32,
 ) -> Result<Vec<u8>, ViewFault>
     requires geo { LiesIn geo.now view.old }
     requires within { Within geo.now leaves.now }
-    ensures bytes { IfOk result (λ out. (v : Volume) → Shows view.old geo.now v → AreRising leaves.now
+    ensures bytes { IfOk result (λ out. (v : Volume) → Shows view.old geo.now v
         → out.items ≡ take len (drop at (map (byte_of v leaves.now) (range_with_len 0 size)))) }
     ensures reads { OnlyReads view.old view.new }
     ensures fails { IfErr result (BlockFails view.old view.new) }
@@ -79,7 +78,7 @@ fn read_data<D: Disk, const N: usize>(
     view: &mut View<'_, D, N>,
     geo: &Geo,
     bytes: &[u8],
-    leaves: &[Leaf],
+    leaves: &OrderedLeaves,
     at: u64,
     len: u32,
 ) -> Result<Vec<u8>, ViewFault>
@@ -118,8 +117,7 @@ pub fn part_of_file<D: Disk, const N: usize>(
     ensures fails { IfErr result (BlockFails view.old view.new) }
 {
     let bytes = reading.block.as_slice();
-    let leaves = reading.leaves.as_slice();
-    let out = read_data(alloc, view, geo, bytes, leaves, at, len)?;
+    let out = read_data(alloc, view, geo, bytes, &reading.leaves, at, len)?;
     Ok(Bytes::from(out))
 }
 

@@ -1,16 +1,16 @@
 // An inode that is read once, for all that is asked of it.
 ghost use Rattle.std.specs.Prelude.{◌≡◌, ◌^◌, ◌≤◌, length, IfOk};
 ghost use Rattle.std.specs.Result.{IfErr};
-ghost use Rattle.o2_view.specs.Views.{Shows, OnlyReads};
+ghost use Rattle.o2_view.specs.Views.{ShowsBytes, OnlyReads};
 ghost use Rattle.o2_view.specs.Geos.{LiesIn};
-ghost use Rattle.o2_view.specs.OwnChecks.{ReadFails};
+ghost use Rattle.o2_view.specs.OwnChecks.{ReadFailsOf};
 ghost use Rattle.o2_model.specs.Volume.{Volume};
 ghost use Rattle.o2_dir.specs.Fails.{data_checks};
 ghost use Rattle.o2_dir.specs.InodeReadings.{Fits, TellsSound};
 
 use crate::file_size::has_sound_size;
 use o2_disk::Disk;
-use o2_extent::{Leaves, records_in};
+use o2_extent::{OrderedLeaves, records_in};
 use o2_model::{Check, Geo};
 use o2_ondisk::{Dinode, read_dinode};
 use o2_view::{Block, ReadFault, View};
@@ -23,7 +23,7 @@ pub struct InodeReading {
     pub dinode: Dinode,
     /// The block of the dinode, in which data can stand too.
     pub block: Block,
-    pub leaves: Leaves,
+    pub leaves: OrderedLeaves,
 }
 
 /// Reads what there is to read of the inode whose block is in hand: the extent blocks of its list. Bad where EXTENT or INODE_SIZE
@@ -38,11 +38,10 @@ pub fn sound_inode_in<D: Disk, const N: usize>(
     requires geo { LiesIn geo.now view.old }
     requires size { length block ≡ 2 ^ geo.now.block_bits }
     requires long { 512 ≤ length block }
-    requires holds { (v : Volume) → Shows view.old geo.now v → block ≡ v.at inode }
     ensures fits { IfOk result (λ reading. Fits geo.now reading) }
-    ensures told { IfOk result (λ reading. (v : Volume) → Shows view.old geo.now v → TellsSound v inode reading) }
+    ensures told { IfOk result (λ reading. (v : Volume) → ShowsBytes view.old geo.now inode block v → TellsSound v inode reading) }
     ensures reads { OnlyReads view.old view.new }
-    ensures fails { IfErr result (ReadFails view.old view.new geo.now (data_checks inode)) }
+    ensures fails { IfErr result (ReadFailsOf (ShowsBytes view.old geo.now inode block) view.old view.new (data_checks inode)) }
 {
     let leaves = records_in(alloc, view, geo, inode, block.as_slice())?;
     if !has_sound_size(alloc, view, geo, inode, block.as_slice(), leaves.as_slice())? {
@@ -56,6 +55,6 @@ pub fn sound_inode_in<D: Disk, const N: usize>(
         inode,
         dinode,
         block,
-        leaves,
+        leaves: OrderedLeaves::new(leaves),
     })
 }

@@ -1,14 +1,14 @@
 // A directory whose entries stand in its blocks.
 ghost use Rattle.std.specs.Prelude.{◌≡◌, ◌≤◌, ◌/◌, ◌%◌, ◌==◌, ◌&&◌, nat_lt, length, ℕ, IfOk};
 ghost use Rattle.std.specs.Result.{IfErr};
-ghost use Rattle.o2_view.specs.Views.{Shows, OnlyReads};
+ghost use Rattle.o2_view.specs.Views.{OnlyReads};
 ghost use Rattle.o2_view.specs.Geos.{LiesIn, HasSizes};
 ghost use Rattle.o2_view.specs.OwnChecks.{NoneFails};
 ghost use Rattle.o2_model.specs.Directories.{directory_entries};
 ghost use Rattle.o2_model.specs.Checks.InodeSize.{has_sound_size};
 ghost use Rattle.o2_model.specs.Volume.{Volume};
 ghost use Rattle.o2_extent.specs.Readings.{Within};
-ghost use Rattle.o2_dir.specs.Fails.{DirFails, IsMapped, directory_checks};
+ghost use Rattle.o2_dir.specs.Fails.{DirFailsOf, IsMapped, ShowsMapped, directory_checks};
 
 use crate::blocks::read_places;
 use crate::places::{Place, places_within};
@@ -58,10 +58,10 @@ pub fn mapped<D: Disk, const N: usize>(
 ) -> Result<Entries, DirFault>
     requires geo { LiesIn geo.now view.old }
     requires within { Within geo.now leaves.now }
-    requires is { (v : Volume) → Shows view.old geo.now v → IsMapped v inode size leaves.now }
-    ensures told { IfOk result (λ entries. (v : Volume) → Shows view.old geo.now v → NoneFails (directory_checks inode) v × (entries ≡ directory_entries v inode)) }
+    ensures told { IfOk result (λ entries. (v : Volume) → ShowsMapped view.old geo.now inode size leaves.now v
+        → NoneFails (directory_checks inode) v × (entries ≡ directory_entries v inode)) }
     ensures reads { OnlyReads view.old view.new }
-    ensures fails { IfErr result (DirFails view.old view.new geo.now (directory_checks inode) ⊥) }
+    ensures fails { IfErr result (DirFailsOf (ShowsMapped view.old geo.now inode size leaves.now) view.old view.new (directory_checks inode) ⊥) }
 {
     let bytes = block_bytes(geo);
     let per_cluster = blocks_per_cluster(geo);

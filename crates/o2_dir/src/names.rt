@@ -1,13 +1,13 @@
 // Entries by their names.
 ghost use Rattle.std.specs.Prelude.{◌≡◌, ◌^◌, ◌≤◌, length, true, option_map, find, Some, IfOk};
 ghost use Rattle.std.specs.Result.{IfErr};
-ghost use Rattle.o2_view.specs.Views.{Shows, OnlyReads};
+ghost use Rattle.o2_view.specs.Views.{Shows, ShowsBytes, OnlyReads};
 ghost use Rattle.o2_view.specs.Geos.{LiesIn, Reaches};
 ghost use Rattle.o2_view.specs.OwnChecks.{NoneFails};
 ghost use Rattle.o2_model.specs.Inodes.{is_directory};
 ghost use Rattle.o2_model.specs.Directories.{first_named, is_named};
 ghost use Rattle.o2_model.specs.Volume.{Volume};
-ghost use Rattle.o2_dir.specs.Fails.{DirFails, HasNone, directory_checks};
+ghost use Rattle.o2_dir.specs.Fails.{DirFails, DirFailsOf, HasNone, HasNoneOf, directory_checks};
 
 use crate::directory::entries_in;
 use crate::{DirFault, Entry};
@@ -42,11 +42,12 @@ pub fn look_up_in<D: Disk, const N: usize>(
     requires geo { LiesIn geo.now view.old }
     requires size { length bytes.now ≡ 2 ^ geo.now.block_bits }
     requires long { 512 ≤ length bytes.now }
-    requires holds { (v : Volume) → Shows view.old geo.now v → bytes.now ≡ v.at inode }
     requires directory { (v : Volume) → Shows view.old geo.now v → is_directory v inode ≡ true }
-    ensures told { IfOk result (λ entry. (v : Volume) → Shows view.old geo.now v → NoneFails (directory_checks inode) v × (first_named v inode name.now ≡ Some entry)) }
+    ensures told { IfOk result (λ entry. (v : Volume) → ShowsBytes view.old geo.now inode bytes.now v
+        → NoneFails (directory_checks inode) v × (first_named v inode name.now ≡ Some entry)) }
     ensures reads { OnlyReads view.old view.new }
-    ensures fails { IfErr result (DirFails view.old view.new geo.now (directory_checks inode) (HasNone view.old geo.now inode name.now)) }
+    ensures fails { IfErr result (DirFailsOf (ShowsBytes view.old geo.now inode bytes.now) view.old view.new (directory_checks inode)
+        (HasNoneOf (ShowsBytes view.old geo.now inode bytes.now) inode name.now)) }
 {
     let all = entries_in(alloc, view, geo, inode, bytes)?.into_vec();
     match take_named(all, name) {

@@ -1,11 +1,13 @@
 -- Of records that rise, the last one that begins at a cluster or before is the one about it, if any is.
-use Rattle.std.proofs.Common.{◌≡◌, inl, inr, ℕ, zero, suc, ◌+◌, ◌<◌, ◌≤◌, Bool, true, false, List, [], ◌∷◌, length, get_or, find, refl, sym, arith, Some, None}
+use Rattle.std.proofs.Common.{◌≡◌, inl, inr, ℕ, zero, suc, ◌+◌, ◌<◌, ◌≤◌, Bool, true, false, List, [], ◌∷◌, length, get_or, find, refl, sym, ◌∙◌, subst, arith, Some, None}
 use Rattle.std.specs.Prelude.{nat_le}
 use Rattle.std.specs.List.Sorted.{IsNonDecreasingBy, IsPartitionPoint}
-use Rattle.std.proofs.lemmas.Bool.{cases_lt}
+use Rattle.std.proofs.lemmas.Bool.{cases_Bool, cases_lt}
 use Rattle.std.proofs.lemmas.Bool.Decides.{nat_tests}
+use Rattle.o2_model.specs.declared.geo.Geo.{Geo}
 use Rattle.o2_model.specs.declared.leaf.Leaf.{Leaf}
 use Rattle.o2_model.specs.Contents.{maps_cluster}
+use Rattle.o2_extent.specs.Readings.{IsWithin, Within}
 use Rattle.o2_extent.specs.Rising.{RiseFrom, AreRising}
 
 -- ---- records that rise
@@ -39,6 +41,25 @@ none_of p [] d others = refl
 none_of p (x ∷ xs) d others = rw (others 0 (omega arith)) (none_of p xs d (λ i low. others (suc i) (omega (arith, low))))
 
 -- ---- of a cluster
+-- what is found is about the cluster, and one of the records
+pub found_about : (c : ℕ) (xs : List Leaf) (leaf : Leaf) → Some leaf ≡ find (maps_cluster c) xs → maps_cluster c leaf ≡ true
+found_about c [] leaf is = absurd (cc)
+found_about c (x ∷ xs) leaf is = elim (cases_Bool (maps_cluster c x)) [
+  | inl about ↦
+      let same : leaf ≡ x = (let e : Some leaf ≡ Some x = is ∙ rw about refl in cc) in
+      rw same about
+  | inr other ↦ found_about c xs leaf (is ∙ rw other refl)
+]
+
+pub found_inside : (geo : Geo) (c : ℕ) (xs : List Leaf) (leaf : Leaf) → Within geo xs → Some leaf ≡ find (maps_cluster c) xs → IsWithin geo leaf
+found_inside geo c [] leaf within is = absurd (cc)
+found_inside geo c (x ∷ xs) leaf within is = elim (cases_Bool (maps_cluster c x)) [
+  | inl about ↦
+      let same : leaf ≡ x = (let e : Some leaf ≡ Some x = is ∙ rw about refl in cc) in
+      subst (IsWithin geo) (sym same) (within 0 x (omega arith))
+  | inr other ↦ found_inside geo c xs leaf (λ k d inside. within (suc k) d (omega (arith, inside))) (is ∙ rw other refl)
+]
+
 ends_at_or_before : (c : ℕ) (x y : Leaf) → x.cpos + x.clusters ≤ y.cpos → nat_le y.cpos c ≡ true → maps_cluster c x ≡ false
 ends_at_or_before c x y before begun = grind (arith, nat_tests)
 

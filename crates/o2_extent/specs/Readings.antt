@@ -1,12 +1,11 @@
 -- What was read of a tree, as the reader keeps it.
-use Rattle.std.specs.Prelude.{◌≡◌, ℕ, ◌+◌, ◌-◌, ◌*◌, ◌^◌, ◌≤◌, true, All, List, [], ◌∷◌, length, Some}
+use Rattle.std.specs.Prelude.{◌≡◌, ℕ, ◌+◌, ◌-◌, ◌*◌, ◌^◌, ◌≤◌, true, All, List, [], ◌∷◌, length}
 use Rattle.o2_disk.specs.declared.disk.Disk as disk
 use Rattle.o2_ondisk.specs.declared.extent_rec.ExtentRec.{ExtentRec}
 use Rattle.o2_model.specs.declared.geo.Geo.{Geo}
 use Rattle.o2_model.specs.declared.leaf.Leaf.{Leaf}
 use Rattle.o2_model.specs.Volume.{Volume}
-use Rattle.o2_model.specs.Extents.{Extents, end_of, names_new_block, is_extent_block, records_in_block, with_met, with_seen, with_fault, read_records}
-use Rattle.o2_model.specs.Extents.LeafRule.{ToClusters}
+use Rattle.o2_model.specs.Extents.{Extents, LeafRule, end_of, names_new_block, is_extent_block, records_in_block, with_met, with_seen, with_fault, read_records}
 use Rattle.o2_model.specs.Checks.Extent.{extent_faults}
 use Rattle.o2_model.specs.declared.check.Check.TheVariants as check
 use Rattle.o2_view.specs.Geos.{blocks_of}
@@ -28,25 +27,25 @@ Within geo leaves = All (IsWithin geo) leaves
 pub record Keeps (reading : Reading) (t : Extents) : Type 0 where
   pub leaves : reading.leaves.items ≡ t.leaves
   pub end : reading.end ≡ end_of t.leaves
-  pub seen : reading.seen.items ≡ t.seen
+  pub seen : reading.seen ≡ t.seen
   pub faults : reading.faults.items ≡ t.faults
 
 -- The reader keeps a reading from which the records left give this whole.
-pub record Left (v : Volume) (most_flags depth holder low : ℕ) (left : List ExtentRec) (reading : Reading) (whole : Extents) : Type 0 where
+pub record Left (v : Volume) (rule : LeafRule) (depth holder low : ℕ) (left : List ExtentRec) (reading : Reading) (whole : Extents) : Type 0 where
   pub now : Extents
   pub keeps : Keeps reading now
-  pub gives : read_records v (ToClusters most_flags) depth holder low left now ≡ whole
+  pub gives : read_records v rule depth holder low left now ≡ whole
 
 -- After a record of a leaf list the reader keeps a reading from which the records left give what they give with it.
-pub record GoesOn (v : Volume) (most_flags : ℕ) (t : Extents) (r : ExtentRec) (reading : Reading) : Type 0 where
+pub record GoesOn (v : Volume) (rule : LeafRule) (t : Extents) (r : ExtentRec) (reading : Reading) : Type 0 where
   pub now : Extents
   pub keeps : Keeps reading now
-  pub gives : (holder low : ℕ) (rs : List ExtentRec) → read_records v (ToClusters most_flags) 0 holder low (r ∷ rs) t ≡ read_records v (ToClusters most_flags) 0 holder low rs now
+  pub gives : (holder low : ℕ) (rs : List ExtentRec) → read_records v rule 0 holder low (r ∷ rs) t ≡ read_records v rule 0 holder low rs now
 
 -- A record of a leaf list is bad, and the reader keeps what it kept.
-pub record Stops (v : Volume) (most_flags : ℕ) (t : Extents) (r : ExtentRec) (reading : Reading) : Type 0 where
+pub record Stops (v : Volume) (rule : LeafRule) (t : Extents) (r : ExtentRec) (reading : Reading) : Type 0 where
   pub keeps : Keeps reading t
-  pub gives : (holder low : ℕ) (rs : List ExtentRec) → read_records v (ToClusters most_flags) 0 holder low (r ∷ rs) t ≡ with_fault t holder
+  pub gives : (holder low : ℕ) (rs : List ExtentRec) → read_records v rule 0 holder low (r ∷ rs) t ≡ with_fault t holder
 
 -- A record of a list of this depth names the block of the next list, which was looked at and has these records.
 pub record Enters (v : Volume) (depth low : ℕ) (t : Extents) (r : ExtentRec) (reading : Reading) (below : List ExtentRec) : Type 0 where

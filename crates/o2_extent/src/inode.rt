@@ -1,22 +1,19 @@
 // An inode with its extents.
 ghost use Rattle.std.specs.Prelude.{◌≡◌, ◌+◌, ◌^◌, ◌≤◌, length, Some, IfOk};
 ghost use Rattle.std.specs.Result.{IfErr};
-ghost use Rattle.o2_ondisk.specs.Dinodes.{last_part_place};
 ghost use Rattle.o2_view.specs.OwnChecks.{BlockFails};
 ghost use Rattle.o2_view.specs.Counted.{CallsAtMost, CallsBut};
-ghost use Rattle.o2_view.specs.Views.{view_state, view_blocks, Shows, OnlyReads};
-ghost use Rattle.o2_model.specs.Extents.{read_list};
-ghost use Rattle.o2_model.specs.Extents.LeafRule.{ToClusters};
-ghost use Rattle.o2_model.specs.Inodes.{extents, most_in_dinode};
+ghost use Rattle.o2_view.specs.Views.{view_state, view_blocks, Shows, ShowsBytes, OnlyReads};
+ghost use Rattle.o2_model.specs.Inodes.{extents};
 ghost use Rattle.o2_model.specs.Volume.{Volume};
 ghost use Rattle.o2_view.specs.Geos.{LiesIn, Reaches};
 ghost use Rattle.o2_extent.specs.Readings.{Keeps, Within};
 
+use crate::block_list::read_block_list;
 use crate::dinode::{flags_allowed, has_list};
-use crate::geometry::block_bytes;
-use crate::list::{header_at, is_sound, records_at};
-use crate::reading::{Reading, add_fault, start};
-use crate::tree::{look, read_into};
+use crate::reading::{Reading, start};
+use crate::rule::LeafRule;
+use crate::tree::look;
 use o2_disk::Disk;
 use o2_model::Geo;
 use o2_ondisk::read_dinode;
@@ -30,46 +27,6 @@ pub struct Inode {
     pub reading: Reading,
 }
 
-/// Reads the list in a dinode of these bytes.
-#[tactic(auto, using(crate::proofs::Sizes::some_bytes))]
-fn read_dinode_list<D: Disk, const N: usize>(
-    alloc: Global,
-    view: &mut View<'_, D, N>,
-    geo: &Geo,
-    most_flags: u8,
-    owner: u64,
-    bytes: &[u8],
-) -> Result<Reading, ViewFault>
-    requires geo { LiesIn geo.now view.old }
-    requires size { length bytes.now ≡ 2 ^ geo.now.block_bits }
-    requires holds { (v : Volume) → Shows view.old geo.now v → bytes.now ≡ v.at owner }
-    ensures read { IfOk result (λ reading. (v : Volume) → Shows view.old geo.now v
-        → Keeps reading (read_list v (ToClusters most_flags) owner last_part_place (most_in_dinode v))) }
-    ensures within { IfOk result (λ reading. Within geo.now reading.leaves.items) }
-    ensures count { CallsBut 1 (view_blocks view.old) (view_state view.old) (view_state view.new) }
-    ensures reads { OnlyReads view.old view.new }
-    ensures fails { IfErr result (BlockFails view.old view.new) }
-{
-    let mut reading = start(alloc);
-    let header = header_at(bytes, 0xc0);
-    if !is_sound(&header, (block_bytes(geo) - 0xd0) / 16) {
-        add_fault(&mut reading, owner)?;
-        return Ok(reading);
-    }
-    let records = records_at(alloc, bytes, 0xc0, header.next_free_rec)?;
-    read_into(
-        alloc,
-        view,
-        geo,
-        most_flags,
-        header.tree_depth,
-        owner,
-        records.as_slice(),
-        &mut reading,
-    )?;
-    Ok(reading)
-}
-
 /// Reads the list of a dinode of these bytes, where it has one.
 #[tactic(auto, using(crate::proofs::Sizes::some_bytes), unfolding(o2_model::specs::Inodes::extents, o2_model::specs::Inodes::is_directory))]
 pub fn read_own_list<D: Disk, const N: usize>(
@@ -81,8 +38,7 @@ pub fn read_own_list<D: Disk, const N: usize>(
 ) -> Result<Reading, ViewFault>
     requires geo { LiesIn geo.now view.old }
     requires size { length bytes.now ≡ 2 ^ geo.now.block_bits }
-    requires holds { (v : Volume) → Shows view.old geo.now v → bytes.now ≡ v.at owner }
-    ensures read { IfOk result (λ reading. (v : Volume) → Shows view.old geo.now v → Keeps reading (extents v owner)) }
+    ensures read { IfOk result (λ reading. (v : Volume) → ShowsBytes view.old geo.now owner bytes.now v → Keeps reading (extents v owner)) }
     ensures within { IfOk result (λ reading. Within geo.now reading.leaves.items) }
     ensures count { CallsBut 1 (view_blocks view.old) (view_state view.old) (view_state view.new) }
     ensures reads { OnlyReads view.old view.new }
@@ -92,7 +48,10 @@ pub fn read_own_list<D: Disk, const N: usize>(
     if !has_list(&dinode) {
         return Ok(start(alloc));
     }
-    read_dinode_list(alloc, view, geo, flags_allowed(&dinode), owner, bytes)
+    let rule = LeafRule::ToClusters {
+        most_flags: flags_allowed(&dinode),
+    };
+    read_block_list(alloc, view, geo, rule, owner, 0xc0, bytes)
 }
 
 /// Reads a dinode and its own list.

@@ -1,18 +1,17 @@
 // The leaf records of an inode.
 ghost use Rattle.std.specs.Prelude.{◌≡◌, ◌+◌, ◌^◌, ◌≤◌, [], length, Some, IfOk, MatchOption};
 ghost use Rattle.std.specs.Result.{IfErr};
-ghost use Rattle.o2_view.specs.OwnChecks.{NoneFails, ReadFails};
-ghost use Rattle.o2_view.specs.Counted.{CallsAtMost, CallsBut};
-ghost use Rattle.o2_view.specs.Views.{view_state, view_blocks, Shows, OnlyReads};
+ghost use Rattle.o2_view.specs.OwnChecks.{NoneFails, ReadFailsOf};
+ghost use Rattle.o2_view.specs.Counted.{CallsBut};
+ghost use Rattle.o2_view.specs.Views.{view_state, view_blocks, ShowsBytes, OnlyReads};
 ghost use Rattle.o2_model.specs.Words.{IsLeast};
 ghost use Rattle.o2_model.specs.Inodes.{leaf_records};
 ghost use Rattle.o2_model.specs.Volume.{Volume};
-ghost use Rattle.o2_view.specs.Geos.{LiesIn, Reaches};
+ghost use Rattle.o2_view.specs.Geos.{LiesIn};
 ghost use Rattle.o2_extent.specs.Readings.{Within, extent_checks};
 
 use crate::Leaves;
 use crate::inode::read_own_list;
-use crate::tree::look;
 use o2_disk::Disk;
 use o2_model::{Check, Geo};
 use o2_view::{ReadFault, View};
@@ -25,7 +24,7 @@ pub fn least(blocks: &[u64]) -> Option<u64>
     blocks.iter().copied().min()
 }
 
-/// The leaf records of the dinode at `owner`, which has these bytes, without those of 0 clusters. Bad where EXTENT fails for it.
+/// The leaf records of the dinode at `owner`, where these are its bytes, without those of 0 clusters. Bad where EXTENT fails for it.
 pub fn records_in<D: Disk, const N: usize>(
     alloc: Global,
     view: &mut View<'_, D, N>,
@@ -35,10 +34,10 @@ pub fn records_in<D: Disk, const N: usize>(
 ) -> Result<Leaves, ReadFault>
     requires geo { LiesIn geo.now view.old }
     requires size { length bytes.now ≡ 2 ^ geo.now.block_bits }
-    requires holds { (v : Volume) → Shows view.old geo.now v → bytes.now ≡ v.at owner }
-    ensures told { IfOk result (λ leaves. (v : Volume) → Shows view.old geo.now v → NoneFails (extent_checks owner) v × (leaves ≡ leaf_records v owner)) }
+    ensures told { IfOk result (λ leaves. (v : Volume) → ShowsBytes view.old geo.now owner bytes.now v
+        → NoneFails (extent_checks owner) v × (leaves ≡ leaf_records v owner)) }
     ensures within { IfOk result (Within geo.now) }
-    ensures fails { IfErr result (ReadFails view.old view.new geo.now (extent_checks owner)) }
+    ensures fails { IfErr result (ReadFailsOf (ShowsBytes view.old geo.now owner bytes.now) view.old view.new (extent_checks owner)) }
     // The disk is called for the extent blocks alone.
     ensures count { CallsBut 1 (view_blocks view.old) (view_state view.old) (view_state view.new) }
     ensures reads { OnlyReads view.old view.new }
@@ -53,23 +52,4 @@ pub fn records_in<D: Disk, const N: usize>(
         });
     }
     Ok(Leaves::from(leaves))
-}
-
-/// The leaf records of the dinode at `owner`, without those of 0 clusters. Bad where EXTENT fails for it.
-pub fn records<D: Disk, const N: usize>(
-    alloc: Global,
-    view: &mut View<'_, D, N>,
-    geo: &Geo,
-    owner: u64,
-) -> Result<Leaves, ReadFault>
-    requires { Reaches geo.now view.old owner }
-    ensures told { IfOk result (λ leaves. (v : Volume) → Shows view.old geo.now v → NoneFails (extent_checks owner) v × (leaves ≡ leaf_records v owner)) }
-    ensures within { IfOk result (Within geo.now) }
-    ensures fails { IfErr result (ReadFails view.old view.new geo.now (extent_checks owner)) }
-    // The disk is called at most as often as the view has blocks.
-    ensures count { CallsAtMost (view_blocks view.old) (view_state view.old) (view_state view.new) }
-    ensures reads { OnlyReads view.old view.new }
-{
-    let block = look(view, geo, owner)?;
-    records_in(alloc, view, geo, owner, block.as_slice())
 }

@@ -10,11 +10,9 @@ ghost use Rattle.o2_view.specs.OwnChecks.{BlockFails};
 ghost use Rattle.o2_view.specs.Views.{Shows, OnlyReads};
 ghost use Rattle.o2_extent.specs.Readings.{Within};
 ghost use Rattle.o2_extent.specs.Maps.{written_at, piece_byte};
-ghost use Rattle.o2_extent.specs.Rising.{AreRising};
 
-use crate::Leaf;
 use crate::geometry::{block_bytes, blocks_per_cluster, volume_blocks};
-use crate::place::place_of;
+use crate::ordered::OrderedLeaves;
 use crate::tree::look;
 use o2_disk::{Disk, NoMemory};
 use o2_model::Geo;
@@ -22,16 +20,16 @@ use o2_ondisk::ExtentFlags;
 use o2_view::{View, ViewFault};
 
 /// The block of the device that holds block `j` of the file, where that is mapped and written.
-fn written_block(geo: &Geo, leaves: &[Leaf], j: u64) -> Option<u64>
+fn written_block(geo: &Geo, leaves: &OrderedLeaves, j: u64) -> Option<u64>
     requires sizes { HasSizes geo.now }
     requires within { Within geo.now leaves.now }
-    ensures block { AreRising leaves.now → result ≡ written_at (2 ^ (geo.now.cluster_bits - geo.now.block_bits)) j leaves.now }
+    ensures block { result ≡ written_at (2 ^ (geo.now.cluster_bits - geo.now.block_bits)) j leaves.now }
     ensures inside { IfSome result (λ b. b < blocks_of geo.now) }
 {
     let _blocks = volume_blocks(geo);
     let per_cluster = blocks_per_cluster(geo);
     let c = j / per_cluster;
-    match place_of(geo, leaves, c) {
+    match leaves.find(c) {
         None => None,
         Some(leaf) => {
             if ExtentFlags(leaf.flags).has(ExtentFlags::UNWRITTEN) {
@@ -68,7 +66,7 @@ fn put_zeros(out: &mut Vec<u8>, count: usize) -> Result<(), NoMemory>
 fn add_piece<D: Disk, const N: usize>(
     view: &mut View<'_, D, N>,
     geo: &Geo,
-    leaves: &[Leaf],
+    leaves: &OrderedLeaves,
     j: u64,
     from: usize,
     count: usize,
@@ -77,7 +75,7 @@ fn add_piece<D: Disk, const N: usize>(
     requires geo { LiesIn geo.now view.old }
     requires within { Within geo.now leaves.now }
     requires inside { from + count ≤ 2 ^ geo.now.block_bits }
-    ensures bytes { OnOk result ((v : Volume) → Shows view.old geo.now v → AreRising leaves.now
+    ensures bytes { OnOk result ((v : Volume) → Shows view.old geo.now v
         → out.new.items ≡ out.old.items ++ map (piece_byte v leaves.now j) (range_with_len from count)) }
     ensures long { OnOk result (length out.new.items ≡ length out.old.items + count) }
     ensures reads { OnlyReads view.old view.new }
@@ -93,11 +91,11 @@ fn add_piece<D: Disk, const N: usize>(
     Ok(())
 }
 
-/// Puts the bytes of the file from `at` to below `end` at the end. Its records rise, as those of each inode do.
+/// Puts the bytes of the file from `at` to below `end` at the end.
 pub fn add_bytes<D: Disk, const N: usize>(
     view: &mut View<'_, D, N>,
     geo: &Geo,
-    leaves: &[Leaf],
+    leaves: &OrderedLeaves,
     at: u64,
     end: u64,
     out: &mut Vec<u8>,
@@ -105,7 +103,7 @@ pub fn add_bytes<D: Disk, const N: usize>(
     requires geo { LiesIn geo.now view.old }
     requires within { Within geo.now leaves.now }
     requires order { at ≤ end }
-    ensures bytes { OnOk result ((v : Volume) → Shows view.old geo.now v → AreRising leaves.now
+    ensures bytes { OnOk result ((v : Volume) → Shows view.old geo.now v
         → out.new.items ≡ out.old.items ++ map (byte_of v leaves.now) (range_with_len at (end - at))) }
     ensures reads { OnlyReads view.old view.new }
     ensures fails { IfErr result (BlockFails view.old view.new) }

@@ -10,6 +10,7 @@ use crate::Leaf;
 use crate::geometry::are_whole_clusters_in_range;
 use crate::leaf::leaf_of_record;
 use crate::list::put;
+use crate::seen::SeenBlocks;
 use o2_disk::NoMemory;
 use o2_model::Geo;
 use o2_ondisk::ExtentRec;
@@ -23,7 +24,7 @@ pub struct Reading {
     /// The cluster of the inode behind the last of them.
     pub end: u64,
     /// The blocks that were looked at as extent blocks.
-    pub seen: Vec<u64>,
+    pub seen: SeenBlocks,
     /// The blocks whose lists are not well formed.
     pub faults: Vec<u64>,
 }
@@ -31,13 +32,13 @@ pub struct Reading {
 /// Nothing was read yet.
 pub fn start(alloc: Global) -> Reading
     ensures keeps { Keeps result nothing_read }
-    ensures seen { result.seen.items ≡ [] }
+    ensures seen { result.seen ≡ [] }
     ensures leaves { result.leaves.items ≡ [] }
 {
     Reading {
         leaves: Vec::new(alloc),
         end: 0,
-        seen: Vec::new(alloc),
+        seen: SeenBlocks::new(alloc),
         faults: Vec::new(alloc),
     }
 }
@@ -65,17 +66,17 @@ pub fn add_fault(reading: &mut Reading, b: u64) -> Result<(), NoMemory>
 /// Adds a block that is looked at.
 pub fn add_seen(reading: &mut Reading, b: u64) -> Result<(), NoMemory>
     ensures added { OnOk result ((t : Extents) → Keeps reading.old t → Keeps reading.new (with_seen t b)) }
-    ensures seen { reading.new.seen.items ≡ (if is_ok result then push reading.old.seen.items b else reading.old.seen.items) }
+    ensures seen { reading.new.seen ≡ (if is_ok result then push reading.old.seen b else reading.old.seen) }
     ensures leaves { reading.new.leaves ≡ reading.old.leaves }
 {
-    put(&mut reading.seen, b)
+    reading.seen.push(b)
 }
 
 /// Whether the block was looked at.
 pub fn has_seen(reading: &Reading, b: u64) -> bool
-    ensures { result ≡ among reading.now.seen.items b }
+    ensures { result ≡ among reading.now.seen b }
 {
-    reading.seen.contains(&b)
+    reading.seen.has(b)
 }
 
 /// Whether a record of a leaf list may follow those that end at cluster `low`.

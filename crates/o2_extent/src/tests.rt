@@ -3,11 +3,12 @@ ghost use Rattle.std.specs.Prelude.{◌≡◌, ◌+◌, ◌≤◌, length, IfOk}
 ghost use Rattle.o2_view.specs.Geos.{HasSizes, HasNumbers, blocks_of};
 ghost use Rattle.o2_extent.specs.Maps.{AreNumbered};
 
-use crate::{Leaf, Leaves, list_of_runs, map_cluster, records};
+use crate::{Leaf, Leaves, OrderedLeaves, list_of_runs, map_cluster, records};
 use o2_disk::{Disk, How, MemDisk};
 use o2_ondisk::{
-    Dinode, DxSeed, ExtentBlock, ExtentListHeader, ExtentRec, ExtentSize, Signature, read_dinode,
-    write_dinode, write_extent_block, write_extent_list_header, write_extent_rec,
+    Dinode, DxRoot, DxSeed, ExtentBlock, ExtentListHeader, ExtentRec, ExtentSize, RefcountBlock,
+    Signature, read_dinode, read_dx_root, read_refcount_block, write_dinode, write_dx_root,
+    write_extent_block, write_extent_list_header, write_extent_rec, write_refcount_block,
 };
 use o2_view::{Check, Geo, ReadFault, Run, View};
 use std::alloc::Global;
@@ -80,6 +81,28 @@ fn extent_block(blkno: u64) -> ExtentBlock {
     }
 }
 
+// An index root with a list of leaves, without that list.
+fn index_root() -> DxRoot {
+    DxRoot {
+        signature: Signature::DXDIR01,
+        fs_generation: 7,
+        blkno: 8,
+        dir_blkno: 12,
+        ..read_dx_root(&[0; 80])
+    }
+}
+
+// A refcount root with a list of leaf blocks, without that list.
+fn refcount_root() -> RefcountBlock {
+    RefcountBlock {
+        signature: Signature::REFCNT1,
+        fs_generation: 7,
+        blkno: 8,
+        flags: 2,
+        ..read_refcount_block(&[0; 80])
+    }
+}
+
 fn record(cpos: u32, size: u32, blkno: u64) -> ExtentRec {
     ExtentRec {
         cpos,
@@ -97,7 +120,7 @@ fn leaf(cpos: u32, clusters: u32, block: u64, flags: u8) -> Leaf {
     }
 }
 
-// The records of the dinode in block 8 of a disk of 160 blocks.
+// The records of the owner in block 8 of a disk of 160 blocks.
 fn read_records<D: Disk>(alloc: Global, disk: &mut D) -> Result<Leaves, ReadFault>
     requires { 320 ≤ (D.state disk.old).sectors }
 {
@@ -169,6 +192,36 @@ fn tells_a_tree_that_leads_back(rt: HostRuntime) -> Result<(), Fail> {
 }
 
 #[test]
+fn reads_the_records_of_an_index_root(rt: HostRuntime) -> Result<(), Fail> {
+    let alloc = rt.alloc();
+    let mut disk = MemDisk::new(alloc, 320)?;
+    disk.attach(alloc, "disk", How::ReadWrite)?;
+    let mut root = [0; 1024];
+    write_dx_root(&mut root, &index_root());
+    put_list(&mut root, 0xc0, 0, &record(0, 2, 40), &record(2, 1, 80));
+    disk.write(16, &root)?;
+    let leaves = read_records(alloc, &mut disk)?;
+    let want = [leaf(0, 2, 40, 0), leaf(2, 1, 80, 0)];
+    assert_eq!(rt; leaves.as_slice(), want.as_slice());
+    Ok(())
+}
+
+#[test]
+fn reads_the_blocks_that_a_refcount_root_names(rt: HostRuntime) -> Result<(), Fail> {
+    let alloc = rt.alloc();
+    let mut disk = MemDisk::new(alloc, 320)?;
+    disk.attach(alloc, "disk", How::ReadWrite)?;
+    let mut root = [0; 1024];
+    write_refcount_block(&mut root, &refcount_root());
+    put_list(&mut root, 0x80, 0, &record(0, 1, 41), &record(30, 1, 43));
+    disk.write(16, &root)?;
+    let leaves = read_records(alloc, &mut disk)?;
+    let want = [leaf(0, 1, 41, 0), leaf(30, 1, 43, 0)];
+    assert_eq!(rt; leaves.as_slice(), want.as_slice());
+    Ok(())
+}
+
+#[test]
 fn lists_runs(rt: HostRuntime) -> Result<(), Fail> {
     let runs = [
         Run {
@@ -213,5 +266,20 @@ fn maps_clusters(rt: HostRuntime) -> Result<(), Fail> {
     assert_eq!(rt; map_cluster(&leaves, 4, 4), Some(48));
     assert_eq!(rt; map_cluster(&leaves, 4, 7), Some(80));
     assert_eq!(rt; map_cluster(&leaves, 4, 5), None);
+    Ok(())
+}
+
+#[test]
+fn finds_records_in_any_order(rt: HostRuntime) -> Result<(), Fail> {
+    let rising = OrderedLeaves::new(two_leaves(rt.alloc())?);
+    assert_eq!(rt; rising.find(4), Some(leaf(2, 3, 40, 0)));
+    assert_eq!(rt; rising.find(7), Some(leaf(7, 1, 80, 1)));
+    assert_eq!(rt; rising.find(5), None);
+    let mut records = two_leaves(rt.alloc())?.into_vec();
+    records.reverse();
+    let falling = OrderedLeaves::new(Leaves::from(records));
+    assert_eq!(rt; falling.find(4), Some(leaf(2, 3, 40, 0)));
+    assert_eq!(rt; falling.find(7), Some(leaf(7, 1, 80, 1)));
+    assert_eq!(rt; falling.find(5), None);
     Ok(())
 }

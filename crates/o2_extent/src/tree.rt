@@ -7,15 +7,16 @@ ghost use Rattle.o2_view.specs.Counted.{CallsAtMost};
 ghost use Rattle.o2_view.specs.Views.{view_state, view_blocks, Shows, OnlyReads};
 ghost use Rattle.o2_ondisk.specs.declared.extent_rec.ExtentRec.{ExtentRec as Record};
 ghost use Rattle.o2_model.specs.Words.{Apart};
-ghost use Rattle.o2_model.specs.Extents.{Extents, is_extent_block, names_new_block, with_met, records_in_block, read_records};
-ghost use Rattle.o2_model.specs.Extents.LeafRule.{ToClusters};
+ghost use Rattle.o2_model.specs.Extents.{Extents, LeafRule as Rule, is_extent_block, names_new_block, with_met, records_in_block, read_records};
 ghost use Rattle.o2_model.specs.Volume.{Volume};
 ghost use Rattle.o2_view.specs.Geos.{HasSizes, LiesIn, Reaches};
 ghost use Rattle.o2_extent.specs.Readings.{Keeps, Within, GoesOn, Stops, Enters, LooksAtMost};
+ghost use Rattle.o2_extent.specs.Rules.{rule_of, tells_clusters};
 
 use crate::geometry::{block_bytes, is_block_in_range};
 use crate::list::{header_at, is_sound, records_at};
-use crate::reading::{Reading, add_fault, add_leaf, add_seen, has_seen, is_sound_record};
+use crate::reading::{Reading, add_fault, add_leaf, add_seen, has_seen};
+use crate::rule::LeafRule;
 use o2_disk::{Disk, NoMemory};
 use o2_model::Geo;
 use o2_ondisk::{ExtentRec, Signature, read_extent_block};
@@ -25,20 +26,20 @@ use std::alloc::Global;
 /// Reads one record of a leaf list. False where it is bad.
 fn read_leaf(
     geo: &Geo,
-    most_flags: u8,
+    rule: LeafRule,
     r: &ExtentRec,
     reading: &mut Reading,
 ) -> Result<bool, NoMemory>
     requires { HasSizes geo.now }
-    ensures good { IfOk result (λ good. good ≡ true → (v : Volume) → v.geo ≡ geo.now → (t : Extents) → Keeps reading.old t → GoesOn v most_flags t r.now reading.new) }
-    ensures bad { IfOk result (λ good. good ≡ false → (v : Volume) → v.geo ≡ geo.now → (t : Extents) → Keeps reading.old t → Stops v most_flags t r.now reading.new) }
+    ensures good { IfOk result (λ good. good ≡ true → (v : Volume) → v.geo ≡ geo.now → (t : Extents) → Keeps reading.old t → GoesOn v (rule_of rule) t r.now reading.new) }
+    ensures bad { IfOk result (λ good. good ≡ false → (v : Volume) → v.geo ≡ geo.now → (t : Extents) → Keeps reading.old t → Stops v (rule_of rule) t r.now reading.new) }
     ensures seen { reading.new.seen ≡ reading.old.seen }
-    ensures within { Within geo.now reading.old.leaves.items → Within geo.now reading.new.leaves.items }
+    ensures within { tells_clusters rule ≡ true → Within geo.now reading.old.leaves.items → Within geo.now reading.new.leaves.items }
 {
     if r.size.leaf_clusters() == 0 {
         return Ok(true);
     }
-    if !is_sound_record(geo, most_flags, reading.end, r) {
+    if !rule.allows(geo, reading.end, r) {
         return Ok(false);
     }
     add_leaf(reading, r)?;
@@ -48,19 +49,19 @@ fn read_leaf(
 /// Reads the records of a leaf list.
 fn read_leaves(
     geo: &Geo,
-    most_flags: u8,
+    rule: LeafRule,
     holder: u64,
     records: &[ExtentRec],
     reading: &mut Reading,
 ) -> Result<(), NoMemory>
     requires { HasSizes geo.now }
     ensures read { OnOk result ((v : Volume) → v.geo ≡ geo.now → (t : Extents) → Keeps reading.old t
-        → Keeps reading.new (read_records v (ToClusters most_flags) 0 holder 0 records.now t)) }
+        → Keeps reading.new (read_records v (rule_of rule) 0 holder 0 records.now t)) }
     ensures seen { reading.new.seen ≡ reading.old.seen }
-    ensures within { Within geo.now reading.old.leaves.items → Within geo.now reading.new.leaves.items }
+    ensures within { tells_clusters rule ≡ true → Within geo.now reading.old.leaves.items → Within geo.now reading.new.leaves.items }
 {
     for r in records {
-        if !read_leaf(geo, most_flags, r, reading)? {
+        if !read_leaf(geo, rule, r, reading)? {
             return add_fault(reading, holder);
         }
     }
@@ -130,7 +131,7 @@ fn meet(
 #[tactic(auto, unfolding(o2_model::specs::Extents::names_new_block))]
 fn may_look(geo: &Geo, low: u64, r: &ExtentRec, reading: &Reading) -> bool
     requires { HasSizes geo.now }
-    ensures { (v : Volume) → v.geo ≡ geo.now → result ≡ names_new_block v low reading.now.seen.items r.now }
+    ensures { (v : Volume) → v.geo ≡ geo.now → result ≡ names_new_block v low reading.now.seen r.now }
 {
     let cpos = u64::from(r.cpos);
     let is_in_range = is_block_in_range(geo, r.blkno);
@@ -152,13 +153,13 @@ fn enter<D: Disk, const N: usize>(
 ) -> Result<Option<Vec<ExtentRec>>, ViewFault>
     requires geo { LiesIn geo.now view.old }
     requires inner { 0 < depth }
-    ensures bad { IfOk result (λ found. IfNone found ((v : Volume) → Shows view.old geo.now v → (m : ℕ) (rs : List Record) (t : Extents) → Keeps reading.old t
-        → Keeps reading.new (read_records v (ToClusters m) depth holder low (r.now ∷ rs) t))) }
+    ensures bad { IfOk result (λ found. IfNone found ((v : Volume) → Shows view.old geo.now v → (rule : Rule) (rs : List Record) (t : Extents) → Keeps reading.old t
+        → Keeps reading.new (read_records v rule depth holder low (r.now ∷ rs) t))) }
     ensures good { IfOk result (λ found. IfSome found (λ below. (v : Volume) → Shows view.old geo.now v → (t : Extents) → Keeps reading.old t
         → Enters v depth low t r.now reading.new below.items)) }
     ensures leaves { reading.new.leaves ≡ reading.old.leaves }
-    ensures apart { Apart (view_blocks view.old) reading.old.seen.items → Apart (view_blocks view.old) reading.new.seen.items }
-    ensures count { LooksAtMost reading.old.seen.items reading.new.seen.items view.old view.new }
+    ensures apart { Apart (view_blocks view.old) reading.old.seen → Apart (view_blocks view.old) reading.new.seen }
+    ensures count { LooksAtMost reading.old.seen reading.new.seen view.old view.new }
     ensures reads { OnlyReads view.old view.new }
     ensures fails { IfErr result (BlockFails view.old view.new) }
 {
@@ -183,7 +184,7 @@ pub fn read_into<D: Disk, const N: usize>(
     alloc: Global,
     view: &mut View<'_, D, N>,
     geo: &Geo,
-    most_flags: u8,
+    rule: LeafRule,
     depth: u16,
     holder: u64,
     records: &[ExtentRec],
@@ -191,15 +192,15 @@ pub fn read_into<D: Disk, const N: usize>(
 ) -> Result<(), ViewFault>
     requires geo { LiesIn geo.now view.old }
     ensures read { OnOk result ((v : Volume) → Shows view.old geo.now v → (t : Extents) → Keeps reading.old t
-        → Keeps reading.new (read_records v (ToClusters most_flags) depth holder 0 records.now t)) }
-    ensures within { Within geo.now reading.old.leaves.items → Within geo.now reading.new.leaves.items }
-    ensures apart { Apart (view_blocks view.old) reading.old.seen.items → Apart (view_blocks view.old) reading.new.seen.items }
-    ensures count { LooksAtMost reading.old.seen.items reading.new.seen.items view.old view.new }
+        → Keeps reading.new (read_records v (rule_of rule) depth holder 0 records.now t)) }
+    ensures within { tells_clusters rule ≡ true → Within geo.now reading.old.leaves.items → Within geo.now reading.new.leaves.items }
+    ensures apart { Apart (view_blocks view.old) reading.old.seen → Apart (view_blocks view.old) reading.new.seen }
+    ensures count { LooksAtMost reading.old.seen reading.new.seen view.old view.new }
     ensures reads { OnlyReads view.old view.new }
     ensures fails { IfErr result (BlockFails view.old view.new) }
 {
     if depth == 0 {
-        read_leaves(geo, most_flags, holder, records, reading)?;
+        read_leaves(geo, rule, holder, records, reading)?;
         return Ok(());
     }
     let mut low = 0;
@@ -212,7 +213,7 @@ pub fn read_into<D: Disk, const N: usize>(
             alloc,
             view,
             geo,
-            most_flags,
+            rule,
             depth - 1,
             r.blkno,
             below.as_slice(),

@@ -10,7 +10,7 @@ use Rattle.std.specs.Ordering.{nat_cmp}
 use Rattle.std.specs.Option.{option_or}
 use Rattle.std.specs.Prelude.{◌≢◌, ◌==◌, All, fold}
 use Rattle.std.specs.List.{AllByRecursion}
-use Rattle.o2_view.specs.Plans.{Planned, AreWhole, home_at, fresh_at, is_in_run, is_zeroed, last_of, zero_block, planned_at}
+use Rattle.o2_view.specs.Plans.{Planned, AreWhole, home_at, fresh_at, is_in_run, is_in_runs, last_of, zero_block, planned_at}
 
 -- ---- what a loop keeps
 -- Of these blocks the last ones are still to be laid: over what the overlay has now, they give what all give over what it had.
@@ -22,8 +22,8 @@ pub record AreLaid (blocks rest : List (ℕ × List ℕ)) (old now : Planned) : 
 
 -- the same of runs of zeros
 pub record AreCleared (runs rest : List (ℕ × ℕ)) (old now : Planned) : Type 0 where
-  pub same : (size b : ℕ) → cond (is_zeroed rest b) (Some (zero_block size)) (planned_at size now b) ≡ cond (is_zeroed runs b) (Some (zero_block size)) (planned_at size old b)
-  pub none : (b : ℕ) → is_zeroed runs b ≡ false → is_zeroed rest b ≡ false
+  pub same : (size b : ℕ) → cond (is_in_runs rest b) (Some (zero_block size)) (planned_at size now b) ≡ cond (is_in_runs runs b) (Some (zero_block size)) (planned_at size old b)
+  pub none : (b : ℕ) → is_in_runs runs b ≡ false → is_in_runs rest b ≡ false
   pub whole : (size : ℕ) → AreWhole size old → AreWhole size now
 
 some_none : {A : Type 0} {x : A} → Some x ≡ None → ⊥
@@ -101,7 +101,7 @@ pub one_cleared : {runs rest : List (ℕ × ℕ)} {old now new : Planned} (run :
     → ((size : ℕ) → AreWhole size now → AreWhole size new) → AreCleared runs rest old new
 one_cleared {runs} {rest} {old} {now} {new} run are here others whole = record {
   same = λ size b. step size b (is_in_run b run) refl ∙ are.same size b;
-  none = λ b none. second_false (is_in_run b run) (is_zeroed rest b) (are.none b none);
+  none = λ b none. second_false (is_in_run b run) (is_in_runs rest b) (are.none b none);
   whole = λ size before. whole size (are.whole size before);
 }
   where
@@ -113,15 +113,15 @@ one_cleared {runs} {rest} {old} {now} {new} run are here others whole = record {
     inside true zero new now is = refl
     inside false zero new now is = is
 
-    step : (size b : ℕ) (is : Bool) → is_in_run b run ≡ is → cond (is_zeroed rest b) (Some (zero_block size)) (planned_at size new b) ≡ cond (is_in_run b run || is_zeroed rest b) (Some (zero_block size)) (planned_at size now b)
-    step size b true h = rw h (inside (is_zeroed rest b) (zero_block size) (planned_at size new b) (planned_at size now b) (here size b h))
-    step size b false h = rw h (ap (cond (is_zeroed rest b) (Some (zero_block size))) (others size b h))
+    step : (size b : ℕ) (is : Bool) → is_in_run b run ≡ is → cond (is_in_runs rest b) (Some (zero_block size)) (planned_at size new b) ≡ cond (is_in_run b run || is_in_runs rest b) (Some (zero_block size)) (planned_at size now b)
+    step size b true h = rw h (inside (is_in_runs rest b) (zero_block size) (planned_at size new b) (planned_at size now b) (here size b h))
+    step size b false h = rw h (ap (cond (is_in_runs rest b) (Some (zero_block size))) (others size b h))
 
 pub none_cleared : (runs : List (ℕ × ℕ)) (old : Planned) → AreCleared runs runs old old
 none_cleared runs old = record { same = λ size b. refl; none = λ b none. none; whole = λ size before. before }
 
-pub cleared_kept : {runs rest : List (ℕ × ℕ)} {old now : Planned} → AreCleared runs rest old now → (size b : ℕ) → is_zeroed runs b ≡ false → planned_at size now b ≡ planned_at size old b
-cleared_kept {runs} {rest} {old} {now} are size b none = both (Some (zero_block size)) (planned_at size now b) (planned_at size old b) (is_zeroed rest b) (is_zeroed runs b) (are.none b none) none (are.same size b)
+pub cleared_kept : {runs rest : List (ℕ × ℕ)} {old now : Planned} → AreCleared runs rest old now → (size b : ℕ) → is_in_runs runs b ≡ false → planned_at size now b ≡ planned_at size old b
+cleared_kept {runs} {rest} {old} {now} are size b none = both (Some (zero_block size)) (planned_at size now b) (planned_at size old b) (is_in_runs rest b) (is_in_runs runs b) (are.none b none) none (are.same size b)
   where
     both : (x c d : Option (List ℕ)) (p q : Bool) → p ≡ false → q ≡ false → cond p x c ≡ cond q x d → c ≡ d
     both x c d true q first second same = absurd (true_false first)
@@ -170,10 +170,10 @@ last_is_home (e ∷ es) b rise = last_from es b (cond (e.0 == b) (Some e.1) None
 
 -- ---- the whole plan
 module _ (size : ℕ) (plan : Planned) (b : ℕ) where
-  pub all_laid : (old zeros fresh home : Option (List ℕ)) → zeros ≡ cond (is_zeroed plan.zeros b) (Some (zero_block size)) old → fresh ≡ option_or (fresh_at plan b) zeros → home ≡ option_or (home_at plan b) fresh
+  pub all_laid : (old zeros fresh home : Option (List ℕ)) → zeros ≡ cond (is_in_runs plan.zeros b) (Some (zero_block size)) old → fresh ≡ option_or (fresh_at plan b) zeros → home ≡ option_or (home_at plan b) fresh
       → home ≡ option_or (planned_at size plan b) old
   unfolding planned_at
-  all_laid old zeros fresh home z f h = h ∙ (ap (option_or (home_at plan b)) (f ∙ ap (option_or (fresh_at plan b)) z) ∙ joined (home_at plan b) (fresh_at plan b) (is_zeroed plan.zeros b))
+  all_laid old zeros fresh home z f h = h ∙ (ap (option_or (home_at plan b)) (f ∙ ap (option_or (fresh_at plan b)) z) ∙ joined (home_at plan b) (fresh_at plan b) (is_in_runs plan.zeros b))
     where
       joined : (h f : Option (List ℕ)) (z : Bool) → option_or h (option_or f (cond z (Some (zero_block size)) old)) ≡ option_or (option_or h (option_or f (cond z (Some (zero_block size)) None))) old
       joined (Some x) f z = refl
@@ -181,9 +181,9 @@ module _ (size : ℕ) (plan : Planned) (b : ℕ) where
       joined None None true = refl
       joined None None false = refl
 
-  pub none_of_it : planned_at size plan b ≡ None → (home_at plan b ≡ None) × (fresh_at plan b ≡ None) × (is_zeroed plan.zeros b ≡ false)
+  pub none_of_it : planned_at size plan b ≡ None → (home_at plan b ≡ None) × (fresh_at plan b ≡ None) × (is_in_runs plan.zeros b ≡ false)
   unfolding planned_at
-  none_of_it none = split (home_at plan b) (fresh_at plan b) (is_zeroed plan.zeros b) none
+  none_of_it none = split (home_at plan b) (fresh_at plan b) (is_in_runs plan.zeros b) none
     where
       split : (h f : Option (List ℕ)) (z : Bool) → option_or h (option_or f (cond z (Some (zero_block size)) None)) ≡ None → (h ≡ None) × (f ≡ None) × (z ≡ false)
       split (Some x) f z e = absurd (some_none e)

@@ -9,7 +9,7 @@ use Rattle.std.specs.Map.{values_of}
 use Rattle.std.specs.Ordering.{nat_cmp}
 use Rattle.std.specs.Prelude.{All, IfSome, fold, ◌==◌}
 use Rattle.std.specs.Option.{option_or}
-use Rattle.o2_view.specs.Plans.{Planned, AreWhole, no_plan, with_home, with_fresh, home_at, fresh_at, is_zeroed, zero_block, planned_at}
+use Rattle.o2_view.specs.Plans.{Planned, AreWhole, no_plan, with_home, with_fresh, home_at, fresh_at, is_in_runs, zero_block, planned_at}
 
 module _ (size : ℕ) where
   -- ---- what a plan has
@@ -21,11 +21,11 @@ module _ (size : ℕ) where
   unfolding planned_at
   fresh_planned p b bytes home fresh = rw (home, fresh) refl
 
-  pub zeros_planned : (p : Planned) (b : ℕ) → home_at p b ≡ None → fresh_at p b ≡ None → is_zeroed p.zeros b ≡ true → planned_at size p b ≡ Some (zero_block size)
+  pub zeros_planned : (p : Planned) (b : ℕ) → home_at p b ≡ None → fresh_at p b ≡ None → is_in_runs p.zeros b ≡ true → planned_at size p b ≡ Some (zero_block size)
   unfolding planned_at
   zeros_planned p b home fresh zeros = rw (home, fresh, zeros) refl
 
-  pub same_planned : (p q : Planned) (b : ℕ) → home_at p b ≡ home_at q b → fresh_at p b ≡ fresh_at q b → is_zeroed p.zeros b ≡ is_zeroed q.zeros b → planned_at size p b ≡ planned_at size q b
+  pub same_planned : (p q : Planned) (b : ℕ) → home_at p b ≡ home_at q b → fresh_at p b ≡ fresh_at q b → is_in_runs p.zeros b ≡ is_in_runs q.zeros b → planned_at size p b ≡ planned_at size q b
   unfolding planned_at
   same_planned p q b home fresh zeros = rw (home, fresh, zeros) refl
 
@@ -56,7 +56,7 @@ module _ (size : ℕ) where
   unfolding planned_at
   whole_at p b whole =
       either (home_at p b) _ (IfSome-lookup_from_All (λ bytes. length bytes ≡ size) (is_at (nat_cmp b)) p.home whole.home)
-      (either (fresh_at p b) _ (last_whole p.fresh b None whole.fresh tt) (zeros_whole (is_zeroed p.zeros b)))
+      (either (fresh_at p b) _ (last_whole p.fresh b None whole.fresh tt) (zeros_whole (is_in_runs p.zeros b)))
 
   -- ---- one piece more
   pub whole_none : AreWhole size no_plan

@@ -8,12 +8,12 @@ use Rattle.o2_disk.specs.Image.{Image, block_at}
 use Rattle.o2_disk.specs.declared.disk.Disk as disk
 use Rattle.o2_model.specs.Volume.{Volume, over}
 use Rattle.o2_model.specs.declared.geo.Geo.{Geo}
-use Rattle.o2_view.specs.Plans.{no_plan, with_home, with_fresh, with_zeros, home_at, fresh_at, is_in_run, is_zeroed, zero_block, planned_at, IsUnplanned}
+use Rattle.o2_view.specs.Plans.{no_plan, with_home, with_fresh, with_zeros, home_at, fresh_at, is_in_run, is_in_runs, zero_block, planned_at, IsUnplanned}
 use Rattle.o2_view.specs.Views.{view_state, view_bits, view_blocks, view_plan, closed_at, changed_at, Shows, OnlyReads, OnlyPlans, with_block, with_run}
 use Rattle.o2_view.specs.declared.view.View.{View}
 use Rattle.o2_view.proofs.Places.{last_here, last_other}
 use Rattle.o2_view.proofs.PlannedBlocks.{home_planned, fresh_planned, zeros_planned, same_planned, none_planned}
-use Rattle.o2_view.proofs.Spans.{zeroed_here, zeroed_other, is_in}
+use Rattle.o2_view.proofs.Spans.{runs_here, runs_other, is_in}
 
 same_changed : {p q c d : Option (List ℕ)} → q ≡ p → d ≡ c → option_or q d ≡ option_or p c
 same_changed first second = cc
@@ -89,7 +89,7 @@ module _ {D : Type 0} {N : ℕ} {g : disk.Ghosts D} where
         | inl same ↦ inr (home_planned _ (view_plan new) c bytes (ap (home_at (view_plan new)) (sym same) ∙ here) ∙ ap (λ x. Some x) (sym (block_here b c bytes v.at same)))
         | inr other ↦ inl (
           block_other b c bytes v.at other,
-          same_planned _ (view_plan new) (view_plan old) c (others c (λ e. other (sym e))) (ap (λ p. fresh_at p c) is) (ap (λ p. is_zeroed p.zeros c) is),
+          same_planned _ (view_plan new) (view_plan old) c (others c (λ e. other (sym e))) (ap (λ p. fresh_at p c) is) (ap (λ p. is_in_runs p.zeros c) is),
         )
       ])
       shows
@@ -104,7 +104,7 @@ module _ {D : Type 0} {N : ℕ} {g : disk.Ghosts D} where
             )
         | inr other ↦ inl (
           block_other b c bytes v.at other,
-          same_planned _ (view_plan new) (view_plan old) c (ap (λ p. home_at p c) is) (ap (λ p. fresh_at p c) is ∙ last_other (view_plan old).fresh b bytes c other) (ap (λ p. is_zeroed p.zeros c) is),
+          same_planned _ (view_plan new) (view_plan old) c (ap (λ p. home_at p c) is) (ap (λ p. fresh_at p c) is ∙ last_other (view_plan old).fresh b bytes c other) (ap (λ p. is_in_runs p.zeros c) is),
         )
       ])
       shows
@@ -117,12 +117,12 @@ module _ {D : Type 0} {N : ℕ} {g : disk.Ghosts D} where
             let in_run = is_in first count c inside in
             let free = none c in_run.0 in_run.1 in
             inr (
-            zeros_planned _ (view_plan new) c (ap (λ p. home_at p c) is ∙ free.0) (ap (λ p. fresh_at p c) is ∙ free.1) (ap (λ p. is_zeroed p.zeros c) is ∙ zeroed_here (view_plan old).zeros first count c in_run.0 in_run.1)
+            zeros_planned _ (view_plan new) c (ap (λ p. home_at p c) is ∙ free.0) (ap (λ p. fresh_at p c) is ∙ free.1) (ap (λ p. is_in_runs p.zeros c) is ∙ runs_here (view_plan old).zeros first count c in_run.0 in_run.1)
             ∙ rw inside refl
             )
         | inr outside ↦ inl (
           rw outside refl,
-          same_planned _ (view_plan new) (view_plan old) c (ap (λ p. home_at p c) is) (ap (λ p. fresh_at p c) is) (ap (λ p. is_zeroed p.zeros c) is ∙ zeroed_other (view_plan old).zeros first count c outside),
+          same_planned _ (view_plan new) (view_plan old) c (ap (λ p. home_at p c) is) (ap (λ p. fresh_at p c) is) (ap (λ p. is_in_runs p.zeros c) is ∙ runs_other (view_plan old).zeros first count c outside),
         )
       ])
       shows

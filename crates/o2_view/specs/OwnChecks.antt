@@ -32,19 +32,27 @@ abbrev pub IsOwn : List OwnCheck → Check → Type 0
 IsOwn [] check = ⊥
 IsOwn (c ∷ cs) check = (check ≡ c.check) ⊎ IsOwn cs check
 
+-- One of the checks fails at this block: of each such volume, as the first of them and at its least block.
+pub record IsBadOf (Of : Volume → Type 0) (checks : List OwnCheck) (check : Check) (b : ℕ) : Type 0 where
+  pub own : IsOwn checks check
+  pub first : (v : Volume) → Of v → FailsFirst checks v check b
+
 module _ {D : Type 0} {N : ℕ} {g : disk.Ghosts D} where
-  -- One of the checks fails at this block: where the view shows a volume, as the first of them and at its least block.
-  pub record IsBad (view : View D N g) (geo : Geo) (checks : List OwnCheck) (check : Check) (b : ℕ) : Type 0 where
-    pub own : IsOwn checks check
-    pub first : (v : Volume) → Shows view geo v → FailsFirst checks v check b
+  -- of each volume that the view shows
+  abbrev pub IsBad : View D N g → Geo → List OwnCheck → Check → ℕ → Type 0
+  IsBad view geo checks check b = IsBadOf (Shows view geo) checks check b
 
   -- why a block was not read: a call of the device failed, or there is no memory, which may come at any time
   abbrev pub BlockFails : View D N g → View D N g → ViewFault → Type 0
   BlockFails old new view.NoMemory = Unit {0}
   BlockFails old new view.DeviceFault = Rose (view_state old).faults (view_state new).faults
 
-  -- why an object was not read: one of these checks fails too
+  -- why an object was not read: one of these checks fails too, of each such volume
+  abbrev pub ReadFailsOf : (Volume → Type 0) → View D N g → View D N g → List OwnCheck → ReadFault → Type 0
+  ReadFailsOf Of old new checks read.NoMemory = Unit {0}
+  ReadFailsOf Of old new checks read.DeviceFault = Rose (view_state old).faults (view_state new).faults
+  ReadFailsOf Of old new checks (read.Bad check b) = IsBadOf Of checks check b
+
+  -- the same of each volume that the view shows
   abbrev pub ReadFails : View D N g → View D N g → Geo → List OwnCheck → ReadFault → Type 0
-  ReadFails old new geo checks read.NoMemory = Unit {0}
-  ReadFails old new geo checks read.DeviceFault = Rose (view_state old).faults (view_state new).faults
-  ReadFails old new geo checks (read.Bad check b) = IsBad old geo checks check b
+  ReadFails old new geo checks fault = ReadFailsOf (Shows old geo) old new checks fault

@@ -42,13 +42,13 @@ last_of blocks b = fold (λ found e. if e.0 == b then Some e.1 else found) None 
 abbrev pub fresh_at : Planned → ℕ → Option (List ℕ)
 fresh_at p b = last_of p.fresh b
 
--- block b lies in the run
+-- number b lies in the run, told by its first number and how many there are
 abbrev pub is_in_run : ℕ → ℕ × ℕ → Bool
 is_in_run b run = nat_le run.0 b && nat_lt b (run.0 + run.1)
 
--- block b lies in one of the runs
-abbrev pub is_zeroed : List (ℕ × ℕ) → ℕ → Bool
-is_zeroed runs b = list_any (is_in_run b) runs
+-- number b lies in one of the runs
+abbrev pub is_in_runs : List (ℕ × ℕ) → ℕ → Bool
+is_in_runs runs b = list_any (is_in_run b) runs
 
 -- a block of so many zeros
 unfoldable pub zero_block : ℕ → List ℕ
@@ -56,7 +56,7 @@ zero_block size = replicate size 0
 
 -- what the plan has for block b, of so many bytes: those of a home block, else of the last fresh block, else zeros in a run of zeros
 unfoldable pub planned_at : ℕ → Planned → ℕ → Option (List ℕ)
-planned_at size p b = option_or (home_at p b) (option_or (fresh_at p b) (if is_zeroed p.zeros b then Some (zero_block size) else None))
+planned_at size p b = option_or (home_at p b) (option_or (fresh_at p b) (if is_in_runs p.zeros b then Some (zero_block size) else None))
 
 -- no home block and no fresh block lies among these
 abbrev pub IsUnplanned : Planned → ℕ → ℕ → Type 0

@@ -55,6 +55,11 @@ module _ {D : Type 0} {N : ℕ} {g : disk.Ghosts D} where
     pub size : v.on_device ≡ 512 * length image / 2 ^ geo.block_bits
     pub blocks : (b : ℕ) → b < view_blocks view → v.at b ≡ unwrap_or (changed_at view b) (block_at (2 ^ view_bits view) image b)
 
+  -- It shows the volume, of which these are the bytes of block b.
+  pub record ShowsBytes (view : View D N g) (geo : Geo) (b : ℕ) (bytes : List ℕ) (v : Volume) : Type 0 where
+    pub shows : Shows view geo v
+    pub is : bytes ≡ v.at b
+
   -- ---- what a call keeps
   -- the view is of the same blocks of the same disk, under the same plans
   pub record SameView (old new : View D N g) : Type 0 where

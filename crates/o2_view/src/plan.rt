@@ -1,7 +1,6 @@
 // Changes that are planned, and not written yet.
 mod fresh;
 mod overlay;
-mod zeros;
 
 ghost use Rattle.std.specs.Prelude.{◌≡◌, ◌≢◌, ◌+◌, ◌<◌, ◌≤◌, ◌^◌, ℕ, List, All, Some, length, IfOk, IfSome, IfNone, OnOk, OnErr};
 ghost use Rattle.std.specs.BTreeMap.{get};
@@ -11,7 +10,7 @@ ghost use Rattle.std.specs.Map.Iter.{ShowsInOrder, deref_pair};
 ghost use Rattle.std.specs.Ordering.{nat_cmp};
 ghost use Rattle.o2_view.specs.Plans.{Planned, AreWhole, no_plan, with_home, with_fresh, with_zeros, home_at, planned_at};
 
-use crate::Block;
+use crate::{Block, RunSet};
 use fresh::FreshBlocks;
 use o2_disk::NoMemory;
 pub use overlay::Overlay;
@@ -19,13 +18,12 @@ use std::alloc::{AllocError, Global};
 use std::collections::BTreeMap;
 use std::collections::btree_map::Iter;
 use std::marker::Model;
-use zeros::ZeroRuns;
 
 /// Changes of blocks: fresh blocks, runs of zeros, and home blocks, which change through the log.
 #[derive(Drop)]
 pub struct Plan {
     fresh: FreshBlocks,
-    zeros: ZeroRuns,
+    zeros: RunSet,
     home: BTreeMap<u64, Block>,
 }
 
@@ -56,7 +54,7 @@ impl Plan {
     {
         Plan {
             fresh: FreshBlocks::new(alloc),
-            zeros: ZeroRuns::new(alloc),
+            zeros: RunSet::new(alloc),
             home: BTreeMap::new(alloc),
         }
     }

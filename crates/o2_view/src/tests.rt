@@ -11,8 +11,8 @@ ghost use Rattle.o2_view.specs.OwnChecks.{BlockFails};
 ghost use Rattle.o2_view.specs.Views.{view_state, view_bits, view_blocks, Shows, OnlyReads};
 
 use crate::{
-    Block, Bytes, Check, Geo, Numbers, ReadFault, Run, Runs, SlotPart, View, ViewFault, Which,
-    find_super,
+    Block, Bytes, Check, Geo, Numbers, ReadFault, Run, RunSet, Runs, SlotPart, View, ViewFault,
+    Which, find_super,
 };
 use o2_disk::{Disk, How, MemDisk, NoMemory};
 use o2_ondisk::DxSeed;
@@ -374,5 +374,19 @@ fn faults_print(rt: HostRuntime) -> Result<(), Fail> {
         block: 7,
     };
     assert_eq!(rt; bad.to_string(alloc)?.as_str(), "Bad");
+    Ok(())
+}
+
+#[test]
+fn runs_meet_what_shares_a_number(rt: HostRuntime) -> Result<(), Fail> {
+    let mut runs = RunSet::new(rt.alloc());
+    runs.push(20, 10)?;
+    runs.push(4, 2)?;
+    runs.push(22, 3)?;
+    runs.push(40, 0)?;
+    assert!(rt; runs.has(5) && !runs.has(6));
+    assert!(rt; runs.meets(0, 5) && runs.meets(5, 15) && runs.meets(6, 100));
+    assert!(rt; runs.meets(24, 1) && !runs.meets(24, 0));
+    assert!(rt; !runs.meets(0, 4) && !runs.meets(6, 14) && !runs.meets(30, 100));
     Ok(())
 }

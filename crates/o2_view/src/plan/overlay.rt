@@ -3,11 +3,10 @@ ghost use Rattle.std.specs.Prelude.{◌≡◌, ◌≢◌, ◌+◌, ◌<◌, ◌�
 ghost use Rattle.std.specs.BTreeMap.{get, values};
 ghost use Rattle.std.specs.Option.{option_or};
 ghost use Rattle.std.specs.Ordering.{nat_cmp};
-ghost use Rattle.o2_view.specs.Plans.{AreWhole, no_plan, home_at, fresh_at, is_in_run, is_zeroed, zero_block, planned_at};
+ghost use Rattle.o2_view.specs.Plans.{AreWhole, no_plan, home_at, fresh_at, is_in_run, is_in_runs, zero_block, planned_at};
 
-use super::zeros::ZeroRuns;
 use super::{Plan, first_from};
-use crate::Block;
+use crate::{Block, RunSet};
 use o2_disk::NoMemory;
 use std::alloc::{AllocError, Global};
 use std::collections::BTreeMap;
@@ -19,7 +18,7 @@ use std::marker::Model;
 pub struct Overlay {
     // A block here is not cleared, though one of the runs may have it: that is older.
     blocks: BTreeMap<u64, Block>,
-    zeros: ZeroRuns,
+    zeros: RunSet,
 }
 
 impl Model for Overlay {
@@ -52,7 +51,7 @@ impl Overlay {
     {
         Overlay {
             blocks: BTreeMap::new(alloc),
-            zeros: ZeroRuns::new(alloc),
+            zeros: RunSet::new(alloc),
         }
     }
 
@@ -84,8 +83,8 @@ impl Overlay {
 
     // Lays the runs of zeros of a plan over what it has.
     fn lay_zeros(&mut self, plan: &Plan) -> Result<(), NoMemory>
-        ensures laid { OnOk result ((size b : ℕ) → planned_at size self.new b ≡ if is_zeroed plan.now.zeros b then Some (zero_block size) else planned_at size self.old b) }
-        ensures kept { (size b : ℕ) → is_zeroed plan.now.zeros b ≡ false → planned_at size self.new b ≡ planned_at size self.old b }
+        ensures laid { OnOk result ((size b : ℕ) → planned_at size self.new b ≡ if is_in_runs plan.now.zeros b then Some (zero_block size) else planned_at size self.old b) }
+        ensures kept { (size b : ℕ) → is_in_runs plan.now.zeros b ≡ false → planned_at size self.new b ≡ planned_at size self.old b }
         ensures whole { (size : ℕ) → AreWhole size self.old → AreWhole size self.new }
     {
         for (first, count) in plan.zero_runs() {

@@ -15,5 +15,5 @@ returns-clause-is g c = IfOk-weaker c.has_sound_entries.result _ _
     (λ has decides v shows.
     let some = rw c.in-Some.is at c.in_ok-block.ensures.some in
     let tests = some v shows in
-    decides v (still_shows c.valid_directory.ensures.reads shows) ∙ sym (entries_decide v c.args.inode tests.0))
+    decides v (record { shows = still_shows c.valid_directory.ensures.reads shows; is = c.as_slice.ensures ∙ tests.1 }) ∙ sym (entries_decide v c.args.inode tests.0))
     c.has_sound_entries.ensures.has

@@ -1,5 +1,5 @@
 -- Two tests of one dinode.
-use Rattle.std.proofs.Common.{◌≡◌, true, false, ◌&&◌, refl, sym, ◌∙◌, ap}
+use Rattle.std.proofs.Common.{◌≡◌, true, false, refl, sym, ◌∙◌, ap}
 use Rattle.o2_ondisk.specs.Dinodes.{dinode_of}
 use Rattle.o2_model.specs.Volume.{is_valid}
 use Rattle.o2_model.specs.Inodes.{is_directory}

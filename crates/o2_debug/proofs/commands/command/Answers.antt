@@ -1,10 +1,11 @@
 -- The path is followed where the skeleton is sound, on what the judge left of the view.
-use Rattle.std.proofs.Common.{arith}
+use Rattle.std.proofs.Common.{inl, inr, arith}
 use Rattle.std.proofs.lemmas.Result.{IfErr-weaker, on_ok_weaker}
 use Rattle.o2_extent.proofs.Views.{still_in}
 use Rattle.o2_view.specs.Views.{view_state}
 use Rattle.o2_view.proofs.Shown.{still_shows, showed_before}
-use Rattle.o2_debug.proofs.Fails.{query_fails}
+use Rattle.o2_debug.proofs.AtPath.{has_start}
+use Rattle.o2_debug.proofs.Fails.{skeleton_fails}
 use Rattle.o2_debug.proofs.commands.command.Goals as goal
 
 pub answer_at_path-requires : goal.answer_at_path-requires
@@ -14,18 +15,23 @@ answer_at_path-requires g c = (
     still_in c.in_ok-judge_skeleton.ensures.lies c.judge_skeleton.ensures.reads,
     (
       c.requires.path,
-      λ v after. c.in_ok-judge_skeleton.ensures.told v (showed_before c.judge_skeleton.ensures.reads after),
+      λ v after. has_start c.args.query.now v (c.in_ok-judge_skeleton.ensures.told v (showed_before c.judge_skeleton.ensures.reads after)),
     ),
   ),
 )
 
 pub returns-clause-told : goal.returns-clause-told
-returns-clause-told g c = on_ok_weaker c.answer_at_path.result (λ answers v shows. answers v (still_shows c.judge_skeleton.ensures.reads shows)) c.answer_at_path.ensures.told
+returns-clause-told g c = on_ok_weaker c.answer_at_path.result (λ answers v shows. (c.in_ok-judge_skeleton.ensures.told v shows, answers v (still_shows c.judge_skeleton.ensures.reads shows))) c.answer_at_path.ensures.told
 
 pub returns-clause-some : goal.returns-clause-some
-returns-clause-some g c v shows = c.answer_at_path.ensures.some v (still_shows c.judge_skeleton.ensures.reads shows)
+returns-clause-some g c v shows =
+    elim (c.answer_at_path.ensures.some v (still_shows c.judge_skeleton.ensures.reads shows)) [
+      | inl nothing ↦ inl nothing
+      | inr some ↦ inr (c.in_ok-judge_skeleton.ensures.told v shows, some)
+    ]
 
 pub returns-clause-fails : goal.returns-clause-fails
 returns-clause-fails g c = IfErr-weaker c.answer_at_path.result _ _
-    (query_fails _ _ (view_state c.args.view.now) (view_state c.judge_skeleton.new.view) (view_state c.answer_at_path.new.view) c.args.query.now (g.K.Sink.state c.args.out.now) (g.K.Sink.state c.answer_at_path.new.out) _ c.judge_skeleton.ensures.reads.later (λ v shows. still_shows c.judge_skeleton.ensures.reads shows))
+    (skeleton_fails _ _ (view_state c.args.view.now) (view_state c.judge_skeleton.new.view) (view_state c.answer_at_path.new.view) c.args.query.now (g.K.Sink.state c.args.out.now) (g.K.Sink.state c.answer_at_path.new.out) _ c.judge_skeleton.ensures.reads.later
+    (λ v shows. still_shows c.judge_skeleton.ensures.reads shows) c.in_ok-judge_skeleton.ensures.told)
     c.answer_at_path.ensures.fails

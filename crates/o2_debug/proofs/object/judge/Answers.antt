@@ -19,13 +19,15 @@ pub returns-clause-told : goal.returns-clause-told
 returns-clause-told g c = IfOk-weaker c.sound_inode_in.result _ _
     (λ reading told v shows.
     let is : c.read_dinode.result ≡ dinode v c.args.inode = c.read_dinode.ensures ∙ ap dinode_of (c.as_slice.ensures ∙ c.in_ok-block.ensures.bytes v shows) in
-    let tells = told v (still_shows c.look.ensures.reads shows) in
+    let tells = told v (record { shows = still_shows c.look.ensures.reads shows; is = c.in_ok-block.ensures.bytes v shows }) in
     (sound_reading v c.args.inode reading (some_kind v c.args.inode c.read_dinode.result is (sym c.has_kind.ensures ∙ c.if-not-has_kind.false)) tells, tells))
     c.sound_inode_in.ensures.told
 
 pub returns-clause-fails : goal.returns-clause-fails
 returns-clause-fails g c = IfErr-weaker c.sound_inode_in.result _ _
-    (reading_fails c.sound_inode_in.new.view c.args.geo.now c.args.inode c.look.ensures.reads (λ v shows.
+    (reading_fails c.sound_inode_in.new.view c.args.geo.now c.args.inode c.look.ensures.reads
+    (λ v shows. record { shows = still_shows c.look.ensures.reads shows; is = c.in_ok-block.ensures.bytes v shows })
+    (λ v shows.
     let is : c.read_dinode.result ≡ dinode v c.args.inode = c.read_dinode.ensures ∙ ap dinode_of (c.as_slice.ensures ∙ c.in_ok-block.ensures.bytes v shows) in
     some_kind v c.args.inode c.read_dinode.result is (sym c.has_kind.ensures ∙ c.if-not-has_kind.false)))
     c.sound_inode_in.ensures.fails

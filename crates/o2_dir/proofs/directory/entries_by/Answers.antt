@@ -12,17 +12,17 @@ pub inlined-requires-clause-most : goal.inlined-requires-clause-most
 inlined-requires-clause-most g c = omega (arith, few_bytes c.args.geo.now c.requires.geo.sizes, c.requires.size)
 
 pub returns-then-is_inline-clause-fails : goal.returns-then-is_inline-clause-fails
-returns-then-is_inline-clause-fails g c = fails_by c.inlined.result c.args.view.now c.args.view.now c.args.geo.now (directory_checks c.args.inode) ⊥ c.inlined.ensures.device c.inlined.ensures.present
+returns-then-is_inline-clause-fails g c = fails_by c.inlined.result _ c.args.view.now c.args.view.now (directory_checks c.args.inode) ⊥ c.inlined.ensures.device c.inlined.ensures.present
     (IfErr-weaker c.inlined.result _ _
     (λ fault bad check b is.
     let found = bad check b is in
     record {
       own = found.0;
-      first = λ v shows.
+      first = λ v seen.
           let bytes = c.args.bytes.now in
           let at = v.at c.args.inode in
-          let read = c.requires.read v shows in
-          found.1 v (c.requires.size ∙ ap (λ (geo : Geo). 2 ^ geo.block_bits) (sym shows.numbers)) (record {
+          let read = seen.read in
+          found.1 v (c.requires.size ∙ ap (λ (geo : Geo). 2 ^ geo.block_bits) (sym seen.shows.numbers)) (record {
             inside = inline_told bytes at _ _ _ read.holds c.read_dinode-dinode.ensures c.is_inline.ensures c.if-is_inline.true;
             sound = read.sound;
             tells = size_told_of bytes at _ read.holds c.read_dinode-dinode.ensures;

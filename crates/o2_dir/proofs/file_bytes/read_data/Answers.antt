@@ -1,9 +1,6 @@
 -- The bytes are read where the dinode says that they are.
-use Rattle.std.proofs.Common.{sym, subst}
 use Rattle.std.proofs.lemmas.List.{take_rest}
 use Rattle.std.proofs.lemmas.Result.{IfOk-weaker}
-use Rattle.o2_extent.specs.Rising.{AreRising}
-use Rattle.o2_extent.proofs.Rising.{records_rise}
 use Rattle.o2_dir.proofs.AnyBlocks.{inline_told, size_told_of}
 use Rattle.o2_dir.proofs.FileParts.{inline_part, fast_part, mapped_part, fast_told}
 use Rattle.o2_dir.proofs.file_bytes.read_data.Goals as goal
@@ -27,5 +24,5 @@ returns-clause-bytes g c = IfOk-weaker c.read_mapped.result _ _
     let bytes = c.args.bytes.now in
     let outside = inline_told bytes (v.at b) _ _ _ read.holds c.read_dinode-dinode.ensures c.is_inline.ensures c.if-is_inline.false in
     let slow = fast_told bytes (v.at b) _ _ _ read.holds c.read_dinode-dinode.ensures c.is_fast_link.ensures c.if-is_fast_link.false in
-    mapped_part v b c.read_dinode-dinode.result.size c.args.at c.args.len c.args.leaves.now out.items outside slow (size_told_of bytes (v.at b) _ read.holds c.read_dinode-dinode.ensures) read.are (is v shows (subst AreRising (sym read.are) (records_rise v b))))
+    mapped_part v b c.read_dinode-dinode.result.size c.args.at c.args.len c.args.leaves.now out.items outside slow (size_told_of bytes (v.at b) _ read.holds c.read_dinode-dinode.ensures) read.are (is v shows))
     c.read_mapped.ensures.bytes

@@ -12,7 +12,7 @@ use Rattle.o2_extent.proofs.pieces.add_bytes.Goals as goal
 
 pub loop-next-preserved : goal.loop-next-preserved
 loop-next-preserved g c = record {
-  bytes = λ v shows rising.
+  bytes = λ v shows.
       let leaves = c.args.leaves.now in
       let at = c.args.at in
       let next = c.loop-next.next in
@@ -24,12 +24,12 @@ loop-next-preserved g c = record {
       let low : next % size < size = mod-lt next (omega (arith, c.block_bytes-size.ensures.some)) in
       let within : next % size + count ≤ size = omega (arith, low, c.min-count.ensures) in
       let inside : next % block_size v + count ≤ block_size v = subst (λ w. next % w + count ≤ w) is within in
-      let piece = rw is at (c.in_ok-add_piece.ensures.bytes v (still_shows c.loop-next.invariant.reads shows) rising) in
+      let piece = rw is at (c.in_ok-add_piece.ensures.bytes v (still_shows c.loop-next.invariant.reads shows)) in
       let there : at + (next - at) ≡ next = omega (arith, c.loop-next.invariant.low) in
       let more : next + count - at ≡ next - at + count = omega (arith, c.loop-next.invariant.low) in
       piece
       ∙ (ap (λ xs. c.loop-next.out.items ++ xs) (piece_bytes v leaves next count some inside)
-      ∙ (ap (λ xs. xs ++ map f (range_with_len next count)) (c.loop-next.invariant.bytes v shows rising)
+      ∙ (ap (λ xs. xs ++ map f (range_with_len next count)) (c.loop-next.invariant.bytes v shows)
       ∙ (append_assoc c.args.out.now.items (map f (range_with_len at (next - at))) (map f (range_with_len next count))
       ∙ ap (λ xs. c.args.out.now.items ++ xs)
       (ap (λ a. map f (range_with_len at (next - at)) ++ map f (range_with_len a count)) (sym there)

@@ -4,12 +4,11 @@ use Rattle.std.specs.List.{range_with_len}
 use Rattle.o2_model.specs.Contents.{byte_of}
 use Rattle.o2_model.specs.Volume.{Volume}
 use Rattle.o2_view.specs.Views.{Shows, OnlyReads}
-use Rattle.o2_extent.specs.Rising.{AreRising}
 use Rattle.o2_extent.proofs.pieces.add_bytes.Given as goal
 
 abbrev pub invariant-loop-next : goal.invariant-loop-next
 invariant-loop-next g l = record {
-  bytes : (v : Volume) → Shows l.fn.view l.geo v → AreRising l.leaves
+  bytes : (v : Volume) → Shows l.fn.view l.geo v
       → l.out.items ≡ l.fn.out.items ++ map (byte_of v l.leaves) (range_with_len l.at (l.next - l.at));
   low : l.at ≤ l.next;
   high : l.next ≤ l.end;

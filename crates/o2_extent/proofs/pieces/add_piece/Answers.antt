@@ -15,13 +15,13 @@ pub put_zeros-requires : goal.put_zeros-requires
 put_zeros-requires g c = omega (arith, few_bytes c.args.geo.now c.requires.geo.sizes, c.requires.inside)
 
 pub returns-in_ok-put_all-in-Some-clause-bytes : goal.returns-in_ok-put_all-in-Some-clause-bytes
-returns-in_ok-put_all-in-Some-clause-bytes g c v shows rising =
+returns-in_ok-put_all-in-Some-clause-bytes g c v shows =
     let from = c.args.from in
     let count = c.args.count in
     let block : c.in_ok-block-in-Some.block ≡ v.at c.in-Some.b = c.in_ok-block-in-Some.ensures.bytes v shows in
     let inside : from + count ≤ length (v.at c.in-Some.b) = omega (arith, c.requires.inside, c.in_ok-block-in-Some.ensures.size, ap length block) in
     let n : from + count - from ≡ count = omega arith in
-    let found : Some c.in-Some.b ≡ written_at (per_cluster v) c.args.j c.args.leaves.now = c.in-Some.ensures.block rising ∙ ap (λ (geo : Geo). written_at (2 ^ (geo.cluster_bits - geo.block_bits)) c.args.j c.args.leaves.now) (sym shows.numbers) in
+    let found : Some c.in-Some.b ≡ written_at (per_cluster v) c.args.j c.args.leaves.now = c.in-Some.ensures.block ∙ ap (λ (geo : Geo). written_at (2 ^ (geo.cluster_bits - geo.block_bits)) c.args.j c.args.leaves.now) (sym shows.numbers) in
     c.in_ok-put_all-in-Some.ensures
     ∙ ap (λ xs. c.args.out.now.items ++ xs)
     (ap (λ k. take k (drop from c.as_slice.result.now)) n
@@ -30,10 +30,10 @@ returns-in_ok-put_all-in-Some-clause-bytes g c v shows rising =
     ∙ ap (λ w. map (λ o. option_map_or (λ b. slice_index (v.at b) o) w 0) (range_with_len from count)) found)))
 
 pub returns-in_ok-put_zeros-in-None-clause-bytes : goal.returns-in_ok-put_zeros-in-None-clause-bytes
-returns-in_ok-put_zeros-in-None-clause-bytes g c v shows rising =
+returns-in_ok-put_zeros-in-None-clause-bytes g c v shows =
     let from = c.args.from in
     let count = c.args.count in
-    let found : None ≡ written_at (per_cluster v) c.args.j c.args.leaves.now = c.in-None.ensures.block rising ∙ ap (λ (geo : Geo). written_at (2 ^ (geo.cluster_bits - geo.block_bits)) c.args.j c.args.leaves.now) (sym shows.numbers) in
+    let found : None ≡ written_at (per_cluster v) c.args.j c.args.leaves.now = c.in-None.ensures.block ∙ ap (λ (geo : Geo). written_at (2 ^ (geo.cluster_bits - geo.block_bits)) c.args.j c.args.leaves.now) (sym shows.numbers) in
     c.in_ok-put_zeros-in-None.ensures
     ∙ ap (λ xs. c.args.out.now.items ++ xs)
     (zeros_are from count

@@ -7,6 +7,6 @@ use Rattle.o2_extent.proofs.Places.{begins_rise}
 use Rattle.o2_extent.proofs.place.count_begun.Goals as goal
 
 pub returns-clause-point : goal.returns-clause-point
-returns-clause-point c rising =
-    let parted = IsPartitionedBy-leb (λ (leaf : Leaf). leaf.cpos) _ c.args.c (begins_rise _ rising) in
+returns-clause-point c =
+    let parted = IsPartitionedBy-leb (λ (leaf : Leaf). leaf.cpos) _ c.args.c (begins_rise _ c.requires) in
     IsPartitionPoint-from_clause (λ (leaf : Leaf). nat_le leaf.cpos c.args.c) _ _ c.partition_point.ensures.partitioned parted (λ a r q k. search rules)

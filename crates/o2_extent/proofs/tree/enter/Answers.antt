@@ -1,5 +1,5 @@
 -- A block that is looked at is new and in range.
-use Rattle.std.proofs.Common.{◌≡◌, ◌-◌, true, false, refl, sym, ◌∙◌, ap, subst, arith}
+use Rattle.std.proofs.Common.{◌≡◌, ◌-◌, true, false, refl, sym, ◌∙◌, subst, arith}
 use Rattle.o2_model.specs.Extents.{names_new_block, is_extent_block, with_seen}
 use Rattle.o2_model.proofs.Looks.{new_below}
 use Rattle.o2_view.specs.Geos.{bare}
@@ -10,7 +10,7 @@ use Rattle.o2_extent.proofs.tree.enter.Goals as goal
 pub look-requires : goal.look-requires
 look-requires g c =
     let names = sym (c.may_look.ensures (bare c.args.geo.now) refl) ∙ c.if-not-may_look.false in
-    (omega arith, record { volume = c.requires.geo; inside = omega (arith, new_below (bare c.args.geo.now) c.args.low c.args.reading.now.seen.items c.args.r.now names, c.requires.geo.within) })
+    (omega arith, record { volume = c.requires.geo; inside = omega (arith, new_below (bare c.args.geo.now) c.args.low c.args.reading.now.seen c.args.r.now names, c.requires.geo.within) })
 
 pub returns-in_err-block-clause-apart : goal.returns-in_err-block-clause-apart
 returns-in_err-block-clause-apart g c =
@@ -19,22 +19,22 @@ returns-in_err-block-clause-apart g c =
 pub returns-in_err-add_fault-2-clause-apart : goal.returns-in_err-add_fault-2-clause-apart
 returns-in_err-add_fault-2-clause-apart g c =
     seen_apart (bare c.args.geo.now) c.args.low _ _ _ c.args.r.now (sym (c.may_look.ensures (bare c.args.geo.now) refl) ∙ c.if-not-may_look.false) c.requires.geo.within
-    (ap (λ s. s.items) c.add_fault-then-not-has_extent_block.ensures.seen ∙ c.in_ok-add_seen.ensures.seen)
+    (c.add_fault-then-not-has_extent_block.ensures.seen ∙ c.in_ok-add_seen.ensures.seen)
 
 pub returns-then-not-has_extent_block-clause-apart : goal.returns-then-not-has_extent_block-clause-apart
 returns-then-not-has_extent_block-clause-apart g c =
     seen_apart (bare c.args.geo.now) c.args.low _ _ _ c.args.r.now (sym (c.may_look.ensures (bare c.args.geo.now) refl) ∙ c.if-not-may_look.false) c.requires.geo.within
-    (ap (λ s. s.items) c.add_fault-then-not-has_extent_block.ensures.seen ∙ c.in_ok-add_seen.ensures.seen)
+    (c.add_fault-then-not-has_extent_block.ensures.seen ∙ c.in_ok-add_seen.ensures.seen)
 
 pub returns-in_err-records-clause-apart : goal.returns-in_err-records-clause-apart
 returns-in_err-records-clause-apart g c =
     seen_apart (bare c.args.geo.now) c.args.low _ _ _ c.args.r.now (sym (c.may_look.ensures (bare c.args.geo.now) refl) ∙ c.if-not-may_look.false) c.requires.geo.within
-    (ap (λ s. s.items) c.meet.ensures.seen ∙ c.in_ok-add_seen.ensures.seen)
+    (c.meet.ensures.seen ∙ c.in_ok-add_seen.ensures.seen)
 
 pub returns-clause-apart : goal.returns-clause-apart
 returns-clause-apart g c =
     seen_apart (bare c.args.geo.now) c.args.low _ _ _ c.args.r.now (sym (c.may_look.ensures (bare c.args.geo.now) refl) ∙ c.if-not-may_look.false) c.requires.geo.within
-    (ap (λ s. s.items) c.meet.ensures.seen ∙ c.in_ok-add_seen.ensures.seen)
+    (c.meet.ensures.seen ∙ c.in_ok-add_seen.ensures.seen)
 
 pub returns-then-not-has_extent_block-clause-bad : goal.returns-then-not-has_extent_block-clause-bad
 returns-then-not-has_extent_block-clause-bad g c v shows m rs t k =

@@ -1,8 +1,8 @@
-// Runs of blocks that are cleared.
-ghost use Rattle.std.specs.Prelude.{◌≡◌, ◌+◌, ◌<◌, ◌≤◌, ◌^◌, ℕ, List, [], ◌∷◌, ◌++◌, All, OnOk, OnErr, IfSome, IfNone, Some, None};
+// Runs of numbers, and whether a number lies in one.
+ghost use Rattle.std.specs.Prelude.{◌≡◌, ◌+◌, ◌<◌, ◌≤◌, ◌^◌, ℕ, List, [], ◌∷◌, ◌++◌, All, OnOk, OnErr, IfSome, IfNone, Some, None, true, false};
 ghost use Rattle.std.specs.Ordering.{nat_cmp};
 ghost use Rattle.std.specs.BTreeMap.{get};
-ghost use Rattle.o2_view.specs.Plans.{is_zeroed};
+ghost use Rattle.o2_view.specs.Plans.{is_in_runs};
 ghost use Rattle.o2_view.specs.Indexes.{AreSpans, IsAdding};
 
 use o2_disk::NoMemory;
@@ -10,15 +10,15 @@ use std::alloc::Global;
 use std::collections::BTreeMap;
 use std::marker::Model;
 
-/// Runs of blocks, each by its first block and how many there are, in the order in which they were planned.
+/// Runs of numbers, each by its first number and how many there are, in the order in which they were added.
 #[derive(Drop)]
-pub struct ZeroRuns {
+pub struct RunSet {
     runs: Vec<(u64, u64)>,
-    // Spans of these blocks, each by its first block with the block behind it. A later one ends later.
+    // Spans of these numbers, each by its first number with the number behind it. A later one ends later.
     ends: BTreeMap<u64, u64>,
 }
 
-impl Model for ZeroRuns {
+impl Model for RunSet {
     ghost use Rattle.std.specs.Prelude.{ℕ, List};
     ghost use Rattle.std.specs.Ordering.{nat_cmp};
     ghost use Rattle.std.specs.BTreeMap.{get};
@@ -26,12 +26,12 @@ impl Model for ZeroRuns {
 
     ghost Value = { List (ℕ × ℕ) };
 
-    ghost view = { λ zeros. zeros.runs.items };
+    ghost view = { λ set. set.runs.items };
 
-    ghost invariant = { λ zeros. AreRuns zeros.runs.items (get nat_cmp zeros.ends) };
+    ghost invariant = { λ set. AreRuns set.runs.items (get nat_cmp set.ends) };
 }
 
-// The last span that begins at block b or before.
+// The last span that begins at b or before.
 fn span_up_to(ends: &BTreeMap<u64, u64>, b: u64) -> Option<(u64, u64)>
     ensures found { IfSome result (λ span. (span.0 ≤ b) × (get nat_cmp ends.now span.0 ≡ Some span.1)) }
     ensures last { IfSome result (λ span. (s e : ℕ) → get nat_cmp ends.now s ≡ Some e → s ≤ b → s ≤ span.0) }
@@ -43,7 +43,7 @@ fn span_up_to(ends: &BTreeMap<u64, u64>, b: u64) -> Option<(u64, u64)>
     }
 }
 
-// The first span that begins behind block b.
+// The first span that begins behind b.
 fn span_behind(ends: &BTreeMap<u64, u64>, b: u64) -> Option<(u64, u64)>
     requires { b + 1 < 2 ^ 64 }
     ensures found { IfSome result (λ span. (b < span.0) × (get nat_cmp ends.now span.0 ≡ Some span.1)) }
@@ -91,11 +91,12 @@ fn drop_useless(ends: &mut BTreeMap<u64, u64>, first: u64, end: u64)
     }
 }
 
-impl ZeroRuns {
+impl RunSet {
+    /// A set of no runs.
     pub fn new(alloc: Global) -> Self
         ensures { result ≡ [] }
     {
-        ZeroRuns {
+        RunSet {
             runs: Vec::new(alloc),
             ends: BTreeMap::new(alloc),
         }
@@ -117,12 +118,28 @@ impl ZeroRuns {
         Ok(())
     }
 
-    /// Whether block b lies in one of the runs.
+    /// Whether b lies in one of the runs.
     pub fn has(&self, b: u64) -> bool
-        ensures { result ≡ is_zeroed self.now b }
+        ensures { result ≡ is_in_runs self.now b }
     {
         match span_up_to(&self.ends, b) {
             Some((_, end)) => b < end,
+            None => false,
+        }
+    }
+
+    /// Whether a number from `first` to below `first + count` lies in one of the runs.
+    pub fn meets(&self, first: u64, count: u64) -> bool
+        requires { first + count < 2 ^ 64 }
+        ensures some { result ≡ true → ((b : ℕ) × (first ≤ b) × (b < first + count) × (is_in_runs self.now b ≡ true)) }
+        ensures none { result ≡ false → (b : ℕ) → first ≤ b → b < first + count → is_in_runs self.now b ≡ false }
+    {
+        if count == 0 {
+            return false;
+        }
+        // Of the spans that begin below the end, the last ends last.
+        match span_up_to(&self.ends, first + count - 1) {
+            Some((_, end)) => first < end,
             None => false,
         }
     }

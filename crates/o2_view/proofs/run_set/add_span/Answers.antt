@@ -4,8 +4,8 @@ use Rattle.std.specs.BTreeMap.{get}
 use Rattle.std.specs.Ordering.{nat_cmp}
 use Rattle.o2_view.proofs.Spans.{adds_none, adds_within, adds_span, same_spans, none_longer}
 use Rattle.o2_view.proofs.Places.{apart_keys}
-use Rattle.o2_view.proofs.plan.zeros.add_span.Goals.{in-Some+else-end-last, in_default}
-use Rattle.o2_view.proofs.plan.zeros.add_span.Goals as goal
+use Rattle.o2_view.proofs.run_set.add_span.Goals.{in-Some+else-end-last, in_default}
+use Rattle.o2_view.proofs.run_set.add_span.Goals as goal
 
 pub returns-then-count-eq0-clause-ok : goal.returns-then-count-eq0-clause-ok
 returns-then-count-eq0-clause-ok c runs are = adds_none runs c.args.first c.args.count (get nat_cmp c.args.ends.now) are c.if-count-eq0.true
@@ -25,4 +25,4 @@ returns-clause-ok c runs are =
       | in_default w ↦ λ s e at low. absurd (let none = rw w.in_default.is at c.span_up_to.ensures.none in let behind = none s e at in omega (arith, behind, low))
     ] in
     c.drop_useless.ensures (runs ++ (c.args.first, c.args.count) ∷ [])
-    (adds_span runs c.args.first c.args.count end are (get nat_cmp c.insert.new.self) longer c.in-Ok.ensures.updates.1 (λ q ne. c.in-Ok.ensures.updates.2 q (apart_keys c.args.first q ne)))
+    (adds_span runs c.args.first c.args.count end are (get nat_cmp c.insert.new.self) (omega (arith, c.if-count-eq0.false)) longer c.in-Ok.ensures.updates.1 (λ q ne. c.in-Ok.ensures.updates.2 q (apart_keys c.args.first q ne)))

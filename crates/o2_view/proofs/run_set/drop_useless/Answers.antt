@@ -3,7 +3,7 @@ use Rattle.std.proofs.Common.{arith, nat_cmp}
 use Rattle.std.specs.BTreeMap.{get}
 use Rattle.o2_view.proofs.Spans.{drops_span, spans_again, later_ones}
 use Rattle.o2_view.proofs.Places.{apart_keys}
-use Rattle.o2_view.proofs.plan.zeros.drop_useless.Goals as goal
+use Rattle.o2_view.proofs.run_set.drop_useless.Goals as goal
 
 pub returns-then-end-last : goal.returns-then-end-last
 returns-then-end-last c runs adding =

@@ -1,0 +1,56 @@
+-- What is read of an index root or of a refcount root, by what its fields say.
+use Rattle.std.proofs.Common.{◌≡◌, ℕ, ◌-◌, ◌/◌, true, false, List, [], refl, arith, Some, None}
+use Rattle.std.proofs.lemmas.Bool.Decides.{nat_tests}
+use Rattle.o2_ondisk.specs.Bits.{has_bits, tree_refcount_flag}
+use Rattle.o2_ondisk.specs.DxRoots.{dx_root_list_place}
+use Rattle.o2_model.specs.Orders.{is_none_of}
+use Rattle.o2_model.specs.declared.leaf.Leaf.{Leaf}
+use Rattle.o2_model.specs.Volume.{Volume, block_size}
+use Rattle.o2_model.specs.Extents.{read_list}
+use Rattle.o2_model.specs.Extents.LeafRule.{ToClusters, ToBlocks}
+use Rattle.o2_model.specs.Indexes.{dx_root, index_root, is_index_root, is_inline_index, is_sound_dx_list, index_extents}
+use Rattle.o2_model.specs.RefcountTrees.{refcount_block, is_refcount_block, most_in_refcount_block, leaf_list}
+use Rattle.o2_model.specs.Checks.RefTree.{is_sound_root_block}
+use Rattle.o2_extent.specs.Owners.{is_some_index_root, index_list, is_sound_index_root, where_sound}
+
+-- ---- an index root
+pub no_index_root : (v : Volume) (b : ℕ) → is_some_index_root v b ≡ false → None ≡ where_sound (is_sound_index_root v b) (index_list v b).leaves
+unfolding is_sound_index_root
+no_index_root v b other = rw other refl
+
+pub bad_entries : (v : Volume) (b : ℕ) → is_some_index_root v b ≡ true → is_inline_index v b ≡ true → is_sound_dx_list v dx_root_list_place b ≡ false → None ≡ where_sound (is_sound_index_root v b) (index_list v b).leaves
+unfolding is_sound_index_root
+bad_entries v b is inline bad = rw (is, inline, bad) refl
+
+pub entries_in_root : (v : Volume) (b : ℕ) → is_some_index_root v b ≡ true → is_inline_index v b ≡ true → is_sound_dx_list v dx_root_list_place b ≡ true → Some [] ≡ where_sound (is_sound_index_root v b) (index_list v b).leaves
+unfolding is_sound_index_root index_list
+entries_in_root v b is inline good = rw (is, inline, good) refl
+
+pub leaves_by_list : (v : Volume) (b : ℕ) → is_some_index_root v b ≡ true → is_inline_index v b ≡ false → (leaves : List Leaf) (faults : List ℕ)
+    → leaves ≡ (read_list v (ToClusters 3) b 0xc0 ((block_size v - 0xd0) / 16)).leaves → faults ≡ (read_list v (ToClusters 3) b 0xc0 ((block_size v - 0xd0) / 16)).faults
+    → where_sound (is_none_of faults) leaves ≡ where_sound (is_sound_index_root v b) (index_list v b).leaves
+unfolding is_sound_index_root index_list
+leaves_by_list v b is outside leaves faults same none = rw (is, outside, same, none) refl
+
+names_directory : (v : Volume) (d b : ℕ) → is_index_root v d b ≡ true → (dx_root v b).dir_blkno ≡ d
+unfolding is_index_root
+names_directory v d b is = grind (arith, nat_tests)
+
+-- the index of a directory is the list in its root, where that is the directory's
+pub list_of_index : (v : Volume) (d : ℕ) → is_index_root v d (index_root v d) ≡ true → index_extents v d ≡ index_list v (index_root v d)
+unfolding index_extents index_list
+list_of_index v d is = rw (names_directory v d (index_root v d) is) refl
+
+-- ---- a refcount root
+pub no_refcount_root : (v : Volume) (b : ℕ) → is_refcount_block v b ≡ false → None ≡ where_sound (is_sound_root_block v b) (leaf_list v b).leaves
+no_refcount_root v b other = rw other refl
+
+pub no_leaf_blocks : (v : Volume) (b : ℕ) → is_refcount_block v b ≡ true → has_bits (refcount_block v b).flags tree_refcount_flag ≡ false → Some [] ≡ where_sound (is_sound_root_block v b) (leaf_list v b).leaves
+unfolding leaf_list
+no_leaf_blocks v b is none = rw (is, none) refl
+
+pub leaf_blocks_by_list : (v : Volume) (b : ℕ) → is_refcount_block v b ≡ true → has_bits (refcount_block v b).flags tree_refcount_flag ≡ true → (leaves : List Leaf) (faults : List ℕ)
+    → leaves ≡ (read_list v ToBlocks b 0x80 (most_in_refcount_block v)).leaves → faults ≡ (read_list v ToBlocks b 0x80 (most_in_refcount_block v)).faults
+    → where_sound (is_none_of faults) leaves ≡ where_sound (is_sound_root_block v b) (leaf_list v b).leaves
+unfolding leaf_list
+leaf_blocks_by_list v b is has leaves faults same none = rw (is, has, same, none) refl
