@@ -1,0 +1,11 @@
+pub mod Walks
+pub mod Met
+pub mod Readings
+pub mod Faults
+pub mod FreeRuns
+pub mod RunLists
+pub mod FreeGroups
+pub mod Edits
+pub mod Bits
+pub mod HomePlans
+pub mod Earlier
