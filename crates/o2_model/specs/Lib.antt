@@ -31,7 +31,6 @@ pub mod Files
 -- ---- metadata of files and directories
 pub mod Metadata
 pub mod RefcountTrees
-pub mod NameHash
 pub mod Indexes
 pub mod SoundIndexes
 -- ---- who needs which cluster and block

@@ -3,6 +3,7 @@ use Rattle.std.specs.Prelude.{ℕ, Bool, true, false, ◌&&◌, ◌||◌, ◌==�
 use Rattle.std.specs.Option.{option_map_or}
 use Rattle.o2_model.specs.declared.allocator.BitUse.{BitUse}
 use Rattle.o2_model.specs.declared.allocator.Group.{Group}
+use Rattle.o2_model.specs.declared.origin.Origin.{Origin}
 use Rattle.o2_model.specs.Volume.{Volume, dinode}
 use Rattle.o2_model.specs.Extents.{extent_block}
 use Rattle.o2_model.specs.Inodes.{extent_blocks_of}
@@ -22,12 +23,6 @@ group_with_bit v is_use b = find (λ g. is_use g.of.bit_use && is_on_bit v b g) 
 -- the block is from an extent_alloc
 abbrev pub is_on_metadata_bit : Volume → ℕ → Bool
 is_on_metadata_bit v b = option_map_or (λ g. true) (group_with_bit v are_metadata b) false
-
--- What a structure says of where its block is from: the slot of an allocator, a bit, and the block of a group or 0.
-pub record Origin : Type 0 where
-  pub slot : ℕ
-  pub bit : ℕ
-  pub loc : ℕ
 
 abbrev pub inode_origin : Volume → ℕ → Origin
 inode_origin v b = record { slot = (dinode v b).suballoc_slot; bit = (dinode v b).suballoc_bit; loc = (dinode v b).suballoc_loc }

@@ -8,6 +8,7 @@ use Rattle.o2_ondisk.specs.Signatures.{refcount_block_signature}
 use Rattle.o2_ondisk.specs.declared.refcount_block.RefcountBlock.{RefcountBlock}
 use Rattle.o2_ondisk.specs.declared.refcount_list_header.RefcountListHeader.{RefcountListHeader}
 use Rattle.o2_ondisk.specs.declared.refcount_rec.RefcountRec.{RefcountRec}
+use Rattle.o2_model.specs.declared.placed_refcount.PlacedRefcount.{PlacedRefcount}
 use Rattle.o2_model.specs.Words.{table, push}
 use Rattle.o2_model.specs.Orders.{rising}
 use Rattle.o2_model.specs.Volume.{Volume, block_size, is_in_range, dinode}
@@ -79,11 +80,6 @@ refcount_records v b =
     if is_refcount_block v b && is_sound_refcount_header v b
     then table refcount_rec_of 16 0x90 (refcount_header v b).used (v.at b)
     else []
-
--- A record of a tree, and the block that it stands in.
-pub record PlacedRefcount : Type 0 where
-  pub block : ℕ
-  pub fields : RefcountRec
 
 -- What was read of a tree's records, in order.
 pub record Refcounts : Type 0 where

@@ -12,8 +12,10 @@ use Rattle.o2_model.specs.declared.entry.Entry.{Entry}
 use Rattle.o2_model.specs.Directories.{DirBlock, dir_blocks, directory_entries, inline_bytes}
 use Rattle.o2_model.specs.Allocators.{are_metadata}
 use Rattle.o2_model.specs.Files.{times_in}
-use Rattle.o2_model.specs.Metadata.{Origin, extent_block_origin, has_slot_and_bit, group_with_bit, metadata_blocks}
-use Rattle.o2_model.specs.NameHash.{NameHash, name_hash, is_ascii_name}
+use Rattle.o2_model.specs.Metadata.{extent_block_origin, has_slot_and_bit, group_with_bit, metadata_blocks}
+use Rattle.o2_model.specs.declared.origin.Origin.{Origin}
+use Rattle.o2_ondisk.specs.declared.hash.NameHash.{NameHash}
+use Rattle.o2_ondisk.specs.NameHashes.{name_hash, is_ascii_name}
 use Rattle.std.specs.Option.{option_map_or}
 use Rattle.o2_model.specs.Indexes.{index_root, dx_root, is_index_root, is_inline_index, index_extents, all_index_blocks, index_clusters, index_leaves, is_sound_dx_list, is_sound_index_leaf, index_entries}
 

@@ -10,6 +10,8 @@ mod items;
 mod journal_part;
 mod leaf;
 mod oddity;
+mod origin;
+mod placed_refcount;
 mod system_file;
 
 pub use allocator::{Allocator, BitUse, Group};
@@ -21,4 +23,6 @@ pub use items::{Bytes, Items};
 pub use journal_part::JournalPart;
 pub use leaf::{Leaf, Leaves};
 pub use oddity::Oddity;
+pub use origin::Origin;
+pub use placed_refcount::{PlacedRefcount, RefRecords};
 pub use system_file::{SlotFile, SystemFile};

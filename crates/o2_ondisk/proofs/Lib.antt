@@ -1,3 +1,4 @@
+pub mod NamePieces
 pub mod NumberLaws
 pub mod NumberPuts
 pub mod PasteLaws

@@ -18,6 +18,7 @@ pub mod JournalTags
 pub mod Kinds
 pub mod LocalAllocHeaders
 pub mod LogHeaders
+pub mod NameHashes
 pub mod Number
 pub mod RefcountBlocks
 pub mod RefcountListHeaders

@@ -12,7 +12,8 @@ use Rattle.o2_model.specs.Extents.LeafRule.{ToClusters}
 use Rattle.o2_model.specs.Inodes.{is_directory}
 use Rattle.o2_model.specs.Allocators.{are_metadata}
 use Rattle.o2_model.specs.Groups.{is_inode, inodes_of}
-use Rattle.o2_model.specs.Metadata.{Origin, extent_block_origin, has_slot_and_bit, group_with_bit, is_on_metadata_bit}
+use Rattle.o2_model.specs.Metadata.{extent_block_origin, has_slot_and_bit, group_with_bit, is_on_metadata_bit}
+use Rattle.o2_model.specs.declared.origin.Origin.{Origin}
 use Rattle.o2_model.specs.Indexes.{is_indexed, indexed_directories, index_root, is_index_root, is_inline_index, index_extents, index_leaves, is_sound_index_leaf}
 use Rattle.o2_model.specs.SoundIndexes.{is_own_block, index_root_origin, has_sound_index_root, has_sound_index_lists, is_sound_index}
 use Rattle.o2_model.specs.Claims.{claims_before_index, claimed_clusters}

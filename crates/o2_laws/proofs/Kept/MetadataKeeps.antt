@@ -10,7 +10,8 @@ use Rattle.o2_model.specs.Inodes.{extent_lists_of, records_of, extent_blocks_of}
 use Rattle.o2_model.specs.Allocators.{are_metadata}
 use Rattle.o2_model.specs.Groups.{is_inode, inodes_of}
 use Rattle.o2_model.specs.RefcountTrees.{refcount_roots, refcount_tree_blocks}
-use Rattle.o2_model.specs.Metadata.{Origin, is_on_bit, group_with_bit, is_on_metadata_bit, is_origin, has_origin, list_blocks, refcount_blocks, metadata_blocks}
+use Rattle.o2_model.specs.Metadata.{is_on_bit, group_with_bit, is_on_metadata_bit, is_origin, has_origin, list_blocks, refcount_blocks, metadata_blocks}
+use Rattle.o2_model.specs.declared.origin.Origin.{Origin}
 use Rattle.o2_model.specs.Failing.{failing}
 use Rattle.o2_laws.proofs.Held.HeldBlocks.{is_held}
 use Rattle.o2_laws.proofs.Held.HeldBlocks.{AgreesOnHeld}

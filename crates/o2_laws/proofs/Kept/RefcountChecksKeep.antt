@@ -9,7 +9,8 @@ use Rattle.o2_model.specs.Volume.{Volume, over}
 use Rattle.o2_model.specs.LeafRecords.{is_refcounted}
 use Rattle.o2_model.specs.Files.{shared_references}
 use Rattle.o2_model.specs.Groups.{inodes_of}
-use Rattle.o2_model.specs.RefcountTrees.{PlacedRefcount, Refcounts, refcount_roots, inodes_of_tree, is_refcount_block, refcount_block, refcounts}
+use Rattle.o2_model.specs.declared.placed_refcount.PlacedRefcount.{PlacedRefcount}
+use Rattle.o2_model.specs.RefcountTrees.{Refcounts, refcount_roots, inodes_of_tree, is_refcount_block, refcount_block, refcounts}
 use Rattle.o2_model.specs.Checks.RefTree.{has_tree, has_refcounted, is_sound_root_block, ref_tree_faults_of, ref_tree_faults}
 use Rattle.o2_model.specs.Checks.RefCover.{tree_references, record_clusters, is_shared_evenly, is_covering, ref_cover_faults}
 use Rattle.o2_model.specs.Checks.RefCount.{has_sound_count, ref_count_faults_of, ref_count_faults}

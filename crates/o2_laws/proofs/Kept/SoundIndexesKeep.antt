@@ -5,11 +5,12 @@ use Rattle.std.specs.List.{Contains, list_all}
 use Rattle.o2_model.specs.Volume.{Volume, over}
 use Rattle.o2_model.specs.declared.entry.Entry.{Entry}
 use Rattle.o2_model.specs.Directories.{DirBlock, dir_blocks, directory_entries}
-use Rattle.o2_model.specs.Metadata.{Origin, extent_block_origin}
+use Rattle.o2_model.specs.Metadata.{extent_block_origin}
+use Rattle.o2_model.specs.declared.origin.Origin.{Origin}
 use Rattle.o2_model.specs.Allocators.{are_metadata}
 use Rattle.o2_model.specs.Indexes.{indexed_directories, index_root, index_extents, index_leaves, is_sound_index_leaf}
 use Rattle.o2_model.specs.SoundIndexes.{is_own_block, has_sound_index_root, has_sound_index_lists, has_own_index_clusters, dir_block_bytes, ends_in_trailer, has_trailers, has_sound_index_counts, is_found_by_hash, is_found_in_index, is_sound_index}
-use Rattle.o2_model.specs.NameHash.{is_ascii_name}
+use Rattle.o2_ondisk.specs.NameHashes.{is_ascii_name}
 use Rattle.o2_model.specs.Failing.{failing}
 use Rattle.o2_laws.proofs.Held.HeldBlocks.{AgreesOnHeld}
 use Rattle.o2_laws.proofs.Found.{found, any_map}

@@ -4,7 +4,8 @@ use Rattle.std.specs.Prelude.{ℕ, ◌-◌, ◌^◌, min, Bool, ◌||◌, not, �
 use Rattle.o2_model.specs.Faults.{fails_at}
 use Rattle.o2_model.specs.Volume.{Volume}
 use Rattle.o2_model.specs.Files.{times_in}
-use Rattle.o2_model.specs.RefcountTrees.{PlacedRefcount, refcount_roots, is_refcount_block, refcounts}
+use Rattle.o2_model.specs.declared.placed_refcount.PlacedRefcount.{PlacedRefcount}
+use Rattle.o2_model.specs.RefcountTrees.{refcount_roots, is_refcount_block, refcounts}
 use Rattle.o2_model.specs.Checks.RefCover.{tree_references, is_shared_evenly}
 
 unfoldable pub has_sound_count : List ℕ → PlacedRefcount → Bool

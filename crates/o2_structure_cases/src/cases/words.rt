@@ -3,7 +3,7 @@ ghost use Rattle.std.specs.Prelude.{◌≡◌, ◌==◌, [], ◌∷◌, true, fa
 ghost use Rattle.o2_ondisk.specs.declared.superblock.DxSeed.{DxSeed};
 ghost use Rattle.o2_model.specs.Orders.{later_like, rising};
 ghost use Rattle.o2_model.specs.Groups.{is_bit_set_in};
-ghost use Rattle.o2_model.specs.NameHash.{NameHash, is_ascii_name, name_hash};
+ghost use Rattle.o2_ondisk.specs.NameHashes.{is_ascii_name, name_hash};
 ghost use Rattle.o2_model.specs.SystemFiles.{system_name};
 ghost use Rattle.o2_model.specs.declared.system_file.SlotFile.TheVariants.{Journal};
 ghost use Rattle.o2_model.specs.declared.system_file.SystemFile.TheVariants.{OfSlot};
