@@ -19,7 +19,7 @@ use Rattle.o2_chain.proofs.WalkedBefore.{AllStand, good_stands, stand_push, bloc
 abbrev pub judged : Allocator → Allocator
 judged a = judged_as (are_clusters a.bit_use) a.block
 
-judged_clusters : (bitmap : Bool) (block : ℕ) → are_clusters (judged_as bitmap block).bit_use ≡ bitmap
+pub judged_clusters : (bitmap : Bool) (block : ℕ) → are_clusters (judged_as bitmap block).bit_use ≡ bitmap
 judged_clusters true block = refl
 judged_clusters false block = refl
 

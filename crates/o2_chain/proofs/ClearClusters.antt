@@ -13,8 +13,9 @@ use Rattle.o2_model.specs.Groups.{is_bit_set, is_bit_set_in}
 use Rattle.o2_model.specs.declared.geo.Geo.{Geo}
 use Rattle.o2_view.specs.declared.run.Run.{Run}
 use Rattle.o2_chain.specs.FreeGroups.{first_cluster}
-use Rattle.o2_chain.specs.FreeRuns.{is_clear_in, is_free, is_of_runs}
-use Rattle.o2_chain.specs.RunLists.{is_gained, Gains}
+use Rattle.o2_view.specs.FreeRuns.{is_of_runs}
+use Rattle.o2_chain.specs.FreeRuns.{is_clear_in, is_free}
+use Rattle.o2_view.specs.RunLists.{is_gained, Gains}
 use Rattle.o2_chain.specs.Walks.{group_in}
 use Rattle.o2_chain.specs.declared.group.Group.{Group}
 

@@ -5,7 +5,7 @@ use Rattle.std.proofs.lemmas.Bool.{cases_lt}
 use Rattle.std.proofs.lemmas.Bool.Decides.{nat_tests}
 use Rattle.std.proofs.lemmas.List.Sums.{sum_by-cons}
 use Rattle.o2_view.specs.declared.run.Run.{Run}
-use Rattle.o2_chain.specs.FreeRuns.{is_of_run}
+use Rattle.o2_view.specs.FreeRuns.{is_of_run}
 
 -- how many numbers of a range lie between two
 count_range : (p : ℕ → Bool) (first end a n : ℕ) → ((k : ℕ) → a ≤ k → k < a + n → p k ≡ (nat_le first k && nat_lt k end)) → count_by p (range_with_len a n) ≡ min end (a + n) - max first a

@@ -24,8 +24,8 @@ use Rattle.o2_chain.specs.Edits.{IsEdited, IsEditedAllocator, IsEditedGroup, Are
 use Rattle.o2_chain.specs.declared.group.Group.{Group}
 use Rattle.o2_chain.specs.Walks.{AreGroups, group_in}
 use Rattle.o2_chain.proofs.Groups.{groups_met}
-use Rattle.o2_chain.proofs.HomePlans.{not_first}
-use Rattle.o2_chain.specs.FreeRuns.{is_of_run}
+use Rattle.o2_view.proofs.HomePlans.{not_first}
+use Rattle.o2_view.specs.FreeRuns.{is_of_run}
 
 -- ---- blocks
 pub other_block : (b c : ℕ) (bytes : List ℕ) (at : ℕ → List ℕ) → b ≢ c → with_block b bytes at c ≡ at c

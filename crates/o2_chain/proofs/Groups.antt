@@ -1,5 +1,5 @@
 -- What the walk of an allocator meets.
-use Rattle.std.proofs.Common.{◌≡◌, inl, inr, ℕ, zero, suc, ◌+◌, ◌<◌, true, false, ◌==◌, eqb, List, [], ◌∷◌, ◌++◌, map, refl, sym, ◌∙◌, ap, subst, arith}
+use Rattle.std.proofs.Common.{◌≡◌, inl, inr, ℕ, zero, suc, ◌+◌, ◌/◌, ◌<◌, true, false, ◌==◌, eqb, List, [], ◌∷◌, ◌++◌, map, refl, sym, ◌∙◌, ap, subst, arith}
 use Rattle.std.specs.List.{list_any, AllByRecursion, Contains}
 use Rattle.std.proofs.lemmas.Bool.{cases_Bool}
 use Rattle.std.proofs.lemmas.Bool.Decides.{nat_tests}
@@ -7,21 +7,27 @@ use Rattle.std.proofs.lemmas.List.{append_cancel_left, map-append}
 use Rattle.o2_model.specs.declared.allocator.Allocator.{Allocator}
 use Rattle.o2_model.specs.declared.allocator.Group.{Group as Walked}
 use Rattle.o2_model.specs.Words.{Apart}
-use Rattle.o2_model.specs.Volume.{Volume, blocks}
-use Rattle.o2_model.specs.Allocators.{chain_heads}
+use Rattle.o2_model.specs.Volume.{Volume, blocks, per_cluster}
+use Rattle.o2_model.specs.Allocators.{are_clusters, chain_heads}
 use Rattle.o2_model.specs.Groups.{GroupWalk, group_desc, is_good_group, with_group, with_bad_link, walk_chain, walk_chains}
 use Rattle.o2_model.proofs.Looks.{apart_none, apart_more}
 use Rattle.o2_view.specs.declared.run.Run.{Run}
 use Rattle.o2_chain.specs.declared.group.Group.{Group}
 use Rattle.o2_chain.specs.Walks.{walked_before, allocator_walk, group_in, AreGroups}
 use Rattle.o2_chain.specs.Met.{IsMet}
+use Rattle.o2_chain.proofs.WalkedBefore.{block_clusters}
 
 -- ---- what a walk adds
+-- where its bits are blocks, the group has clusters
+abbrev pub HasClusters : Volume → Allocator → Group → Type 0
+HasClusters v a g = are_clusters a.bit_use ≡ false → 0 < g.bits / per_cluster v
+
 -- The walk has these groups more, and each of them is met.
 record Adds (v : Volume) (a : Allocator) (old new : GroupWalk) : Type 0 where
   more : List Group
   groups : new.groups ≡ old.groups ++ map (group_in a) more
   met : AllByRecursion (IsMet v a) more
+  some : AllByRecursion (HasClusters v a) more
 
 good_met : (v : Volume) (a : Allocator) (walked : List Walked) (chain b : ℕ) → is_good_group v a walked b ≡ true → IsMet v a (record { chain = chain; block = b; bits = (group_desc v b).bits })
 unfolding is_good_group
@@ -35,8 +41,12 @@ good_met v a walked chain b good = record {
   place = λ of_clusters. grind (arith, nat_tests, of_clusters);
 }
 
+good_some : (v : Volume) (a : Allocator) (walked : List Walked) (chain b : ℕ) → is_good_group v a walked b ≡ true → HasClusters v a (record { chain = chain; block = b; bits = (group_desc v b).bits })
+unfolding is_good_group
+good_some v a walked chain b good others = block_clusters v walked b (grind (arith, nat_tests, good, others))
+
 adds_none : (v : Volume) (a : Allocator) (w : GroupWalk) → Adds v a w w
-adds_none v a w = record { more = []; groups = sym (append_none w.groups); met = tt }
+adds_none v a w = record { more = []; groups = sym (append_none w.groups); met = tt; some = tt }
   where
     append_none : {A : Type 0} (xs : List A) → xs ++ [] ≡ xs
     append_none [] = refl
@@ -52,13 +62,14 @@ all_append P (x ∷ xs) ys first later = (first.0, all_append P xs ys first.1 la
 
 -- a bad link adds nothing
 adds_bad : (v : Volume) (a : Allocator) (holder : ℕ) (w : GroupWalk) → Adds v a w (with_bad_link w holder)
-adds_bad v a holder w = let none = adds_none v a w in record { more = none.more; groups = none.groups; met = none.met }
+adds_bad v a holder w = let none = adds_none v a w in record { more = none.more; groups = none.groups; met = none.met; some = none.some }
 
 adds_both : (v : Volume) (a : Allocator) (u w x : GroupWalk) → Adds v a u w → Adds v a w x → Adds v a u x
 adds_both v a u w x first later = record {
   more = first.more ++ later.more;
   groups = later.groups ∙ (ap (λ gs. gs ++ map (group_in a) later.more) first.groups ∙ (append_assoc u.groups _ _ ∙ ap (λ gs. u.groups ++ gs) (sym (map-append (group_in a) first.more later.more))));
   met = all_append (IsMet v a) first.more later.more first.met later.met;
+  some = all_append (HasClusters v a) first.more later.more first.some later.some;
 }
 
 adds_one : (v : Volume) (a : Allocator) (w : GroupWalk) (chain b : ℕ) → is_good_group v a w.groups b ≡ true → Adds v a w (with_group w a chain b (group_desc v b).bits)
@@ -66,6 +77,7 @@ adds_one v a w chain b good = record {
   more = record { chain = chain; block = b; bits = (group_desc v b).bits } ∷ [];
   groups = refl;
   met = (good_met v a w.groups chain b good, tt);
+  some = (good_some v a w.groups chain b good, tt);
 }
 
 chain_adds : (v : Volume) (a : Allocator) (chain most holder link : ℕ) (w : GroupWalk) → Adds v a w (walk_chain v a chain most holder link w)
@@ -97,12 +109,20 @@ each_of P (y ∷ ys) x all (zero, low, same) = subst P same all.0
 each_of P (y ∷ ys) x all (suc i, low, same) = each_of P ys x all.1 (i, omega (arith, low), same)
 
 module _ (v : Volume) (a : Allocator) (before : List Run) (groups : List Group) (are : AreGroups v a before groups) where
-  all_met : AllByRecursion (IsMet v a) groups
+  adds : Adds v a (record { groups = walked_before v before; faults = [] }) (allocator_walk v a before)
   unfolding allocator_walk
-  all_met =
-      let adds = chains_add v a 0 (chain_heads v a) (record { groups = walked_before v before; faults = [] }) in
+  adds = chains_add v a 0 (chain_heads v a) (record { groups = walked_before v before; faults = [] })
+
+  these : adds.more ≡ groups
+  these =
       let same : map (group_in a) adds.more ≡ map (group_in a) groups = append_cancel_left (walked_before v before) _ _ (sym adds.groups ∙ are) in
-      subst (AllByRecursion (IsMet v a)) (sym (back_out a adds.more) ∙ (ap (map group_out) same ∙ back_out a groups)) adds.met
+      sym (back_out a adds.more) ∙ (ap (map group_out) same ∙ back_out a groups)
+
+  pub all_met : AllByRecursion (IsMet v a) groups
+  all_met = subst (AllByRecursion (IsMet v a)) these adds.met
+
+  pub all_some : AllByRecursion (HasClusters v a) groups
+  all_some = subst (AllByRecursion (HasClusters v a)) these adds.some
 
   pub groups_met : (g : Group) → Contains groups g → IsMet v a g
   groups_met g is = each_of (IsMet v a) groups g all_met is

@@ -12,13 +12,11 @@ pub mod Counts
 pub mod Descriptors
 pub mod ChainCounts
 pub mod EditedDinode
-pub mod HomePlans
 pub mod EditedGroups
-pub mod RunLists
-pub mod Gains
 pub mod RisingGroups
 pub mod ClearClusters
 pub mod WalkedBefore
 pub mod BesideWalks
 pub mod FirstAllocators
 pub mod OneAllocator
+pub mod ClustersAdded

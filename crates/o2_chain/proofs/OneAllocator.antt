@@ -16,7 +16,7 @@ use Rattle.o2_model.specs.Allocators.{are_clusters, allocators, chain_list_heade
 use Rattle.o2_model.specs.Groups.{GroupWalk, group_desc, group_clusters, holds_cluster, is_good_group, with_group, walk_chain, walk_chains, walk_allocators}
 use Rattle.o2_view.specs.declared.run.Run.{Run}
 use Rattle.o2_chain.specs.declared.group.Group.{Group}
-use Rattle.o2_chain.specs.FreeRuns.{is_of_run, is_of_runs}
+use Rattle.o2_view.specs.FreeRuns.{is_of_run, is_of_runs}
 use Rattle.o2_chain.specs.Walks.{group_of_run, walked_before, allocator_walk, group_in, judged_as, AreGroups}
 use Rattle.o2_chain.specs.Earlier.{AreBefore, walk_of}
 use Rattle.o2_chain.proofs.Walking.{among_row}

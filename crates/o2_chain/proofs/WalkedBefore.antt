@@ -70,7 +70,7 @@ module _ (v : Volume) where
         fixed_start v (cluster_of v b) (ap (λ c. c % group_size v) start ∙ mul-mod_left (group_index v b) (group_size v))
   ]
 
-  block_clusters : (walked : List Group) (b : ℕ) → is_block_group v walked b ≡ true → 0 < (group_desc v b).bits / per_cluster v
+  pub block_clusters : (walked : List Group) (b : ℕ) → is_block_group v walked b ≡ true → 0 < (group_desc v b).bits / per_cluster v
   block_clusters walked b good = some_clusters (group_desc v b).bits (grind (arith, nat_tests, good)) (grind (arith, nat_tests, good))
 
   pub good_stands : (a : Allocator) (walked : List Group) (chain b : ℕ) → is_good_group v a walked b ≡ true → stands_in_its_cluster v (record { of = a; chain = chain; block = b; bits = (group_desc v b).bits }) ≡ true

@@ -5,7 +5,7 @@ use Rattle.o2_model.specs.declared.allocator.Allocator.{Allocator}
 use Rattle.o2_model.specs.Volume.{Volume}
 use Rattle.o2_model.specs.Groups.{GroupWalk, holds_cluster, walk_allocators}
 use Rattle.o2_view.specs.declared.run.Run.{Run}
-use Rattle.o2_chain.specs.FreeRuns.{is_of_runs}
+use Rattle.o2_view.specs.FreeRuns.{is_of_runs}
 
 -- the walk over the chains of these allocators
 abbrev pub walk_of : Volume → List Allocator → GroupWalk

@@ -13,7 +13,7 @@ use Rattle.o2_model.specs.Allocators.{chains, chain_list_header, used_of, total_
 use Rattle.o2_model.specs.Groups.{group_desc, is_bit_set}
 use Rattle.o2_model.specs.Checks.ClusterAllocBit.{cluster_of_bit}
 use Rattle.o2_view.specs.declared.run.Run.{Run}
-use Rattle.o2_chain.specs.FreeRuns.{is_of_run}
+use Rattle.o2_view.specs.FreeRuns.{is_of_run}
 
 -- ---- what the run has of the groups
 -- how many bits of the group stand for clusters of the run

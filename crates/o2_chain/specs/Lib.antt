@@ -3,9 +3,8 @@ pub mod Met
 pub mod Readings
 pub mod Faults
 pub mod FreeRuns
-pub mod RunLists
 pub mod FreeGroups
 pub mod Edits
 pub mod Bits
-pub mod HomePlans
 pub mod Earlier
+pub mod Whole

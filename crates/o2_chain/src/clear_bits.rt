@@ -1,11 +1,11 @@
 // The clear bits of a group, as clusters.
 ghost use Rattle.std.specs.Prelude.{◌≡◌, ◌+◌, ◌*◌, ◌/◌, ◌%◌, ◌^◌, ◌<◌, ◌≤◌, ◌==◌, not, length, OnOk};
 ghost use Rattle.o2_model.specs.Groups.{is_bit_set_in};
-ghost use Rattle.o2_chain.specs.RunLists.{end_of_runs, Gains};
+ghost use Rattle.o2_view.specs.RunLists.{end_of_runs, Gains};
 
 use crate::bits::BITMAP_PLACE;
-use crate::run_list::RunList;
 use o2_disk::NoMemory;
+use o2_view::RunList;
 
 /// Adds the cluster of each clear bit of the first `bits` of a byte, where `first` is that of its lowest bit.
 fn add_clear_of_byte(runs: &mut RunList, byte: u8, first: u32, bits: u32) -> Result<(), NoMemory>

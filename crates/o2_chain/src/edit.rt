@@ -11,7 +11,7 @@ ghost use Rattle.o2_chain.specs.Bits.{IsChangedGroup};
 ghost use Rattle.o2_chain.specs.declared.group.Group.{Group as Walked};
 ghost use Rattle.o2_chain.specs.Edits.{IsEdited, IsEditedAllocator, AreEditedGroups, shared_by, shared_blocks, edited_blocks};
 ghost use Rattle.o2_chain.specs.Faults.{ChainFails};
-ghost use Rattle.o2_chain.specs.HomePlans.{PlansHome, PlansOnly};
+ghost use Rattle.o2_view.specs.HomePlans.{PlansHome, PlansOnly};
 ghost use Rattle.o2_chain.specs.Walks.{AreSoundGroups, group_in, judged_as, chain_checks};
 
 use crate::allocator_edit::change_allocator;

@@ -8,17 +8,17 @@ ghost use Rattle.o2_view.specs.Geos.{HasSizes, LiesIn};
 ghost use Rattle.o2_view.specs.Views.{view_state, Shows, OnlyReads};
 ghost use Rattle.o2_chain.specs.Faults.{ChainFails};
 ghost use Rattle.o2_chain.specs.FreeGroups.{first_cluster, HasPlace};
-ghost use Rattle.o2_chain.specs.FreeRuns.{is_free, no_bad_group, AreFreeRuns};
+ghost use Rattle.o2_view.specs.FreeRuns.{AreFreeRuns};
+ghost use Rattle.o2_chain.specs.FreeRuns.{is_free, no_bad_group};
 ghost use Rattle.o2_chain.specs.Walks.{judged_as, group_in, AreSoundGroups};
 
 use crate::clear_bits::add_clear;
 use crate::places::group_size;
-use crate::run_list::RunList;
 use crate::{ChainFault, Group, Groups};
 use o2_disk::{Disk, NoMemory};
 use o2_extent::{blocks_per_cluster, look, volume_blocks};
 use o2_model::{Check, Geo};
-use o2_view::{Runs, View};
+use o2_view::{RunList, Runs, View};
 use std::alloc::Global;
 
 /// The cluster of the group's first bit. None where the group has no place in the volume, at cluster `end` or behind.

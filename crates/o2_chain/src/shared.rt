@@ -5,7 +5,7 @@ ghost use Rattle.o2_model.specs.Checks.ClusterAllocBit.{cluster_of_bit};
 ghost use Rattle.o2_model.specs.Volume.{Volume};
 ghost use Rattle.o2_view.specs.Geos.{HasSizes, blocks_of};
 ghost use Rattle.o2_chain.specs.Edits.{shared_bits};
-ghost use Rattle.o2_chain.specs.FreeRuns.{is_of_run};
+ghost use Rattle.o2_view.specs.FreeRuns.{is_of_run};
 ghost use Rattle.o2_chain.specs.Met.{IsMet};
 ghost use Rattle.o2_chain.specs.Walks.{group_in};
 

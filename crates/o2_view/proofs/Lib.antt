@@ -1,10 +1,13 @@
 pub mod Faults
 pub mod Found
+pub mod Gains
+pub mod HomePlans
 pub mod Laid
 pub mod Numbers
 pub mod Places
 pub mod PlannedBlocks
 pub mod Rooms
+pub mod RunLists
 pub mod Shifts
 pub mod Shown
 pub mod Spans

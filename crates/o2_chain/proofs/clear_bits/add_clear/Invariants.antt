@@ -2,7 +2,7 @@
 use Rattle.std.proofs.Common.{◌*◌}
 use Rattle.std.specs.Prelude.{not, min}
 use Rattle.o2_model.specs.Groups.{is_bit_set_in}
-use Rattle.o2_chain.specs.RunLists.{Gains}
+use Rattle.o2_view.specs.RunLists.{Gains}
 use Rattle.o2_chain.proofs.clear_bits.add_clear.Given as goal
 
 abbrev pub invariant-loop-i : goal.invariant-loop-i

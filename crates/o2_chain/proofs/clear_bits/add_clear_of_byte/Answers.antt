@@ -1,7 +1,7 @@
 -- A full byte has no clear bit.
 use Rattle.std.proofs.Common.{◌≡◌, ◌/◌, ◌%◌, ◌^◌, ◌<◌, false, zero, suc, ℕ, refl, arith}
 use Rattle.std.specs.Prelude.{◌==◌, not}
-use Rattle.o2_chain.proofs.Gains.{gains_none}
+use Rattle.o2_view.proofs.Gains.{gains_none}
 use Rattle.o2_chain.proofs.clear_bits.add_clear_of_byte.Goals as goal
 
 none_clear : (k : ℕ) → k < 8 → not (255 / 2 ^ k % 2 == 1) ≡ false

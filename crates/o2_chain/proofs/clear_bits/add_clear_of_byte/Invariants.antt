@@ -1,7 +1,7 @@
 -- The clear bits below this one are added.
 use Rattle.std.proofs.Common.{◌/◌, ◌%◌, ◌^◌}
 use Rattle.std.specs.Prelude.{◌==◌, not}
-use Rattle.o2_chain.specs.RunLists.{Gains}
+use Rattle.o2_view.specs.RunLists.{Gains}
 use Rattle.o2_chain.proofs.clear_bits.add_clear_of_byte.Given as goal
 
 abbrev pub invariant-loop-k : goal.invariant-loop-k

@@ -6,7 +6,7 @@ use Rattle.o2_view.specs.Views.{Shows, with_block}
 use Rattle.o2_view.proofs.Shown.{still_shows}
 use Rattle.o2_chain.specs.Walks.{judged_as}
 use Rattle.o2_chain.proofs.EditedGroups.{same_block}
-use Rattle.o2_chain.proofs.HomePlans.{only_home}
+use Rattle.o2_view.proofs.HomePlans.{only_home}
 use Rattle.o2_chain.proofs.edit.plan_allocator.Goals as goal
 
 pub returns-clause-planned : goal.returns-clause-planned

@@ -5,7 +5,7 @@ use Rattle.o2_chain.specs.Bits.{IsChangedGroup}
 use Rattle.o2_view.specs.Views.{Shows, with_block}
 use Rattle.o2_model.specs.Volume.{over}
 use Rattle.o2_view.proofs.Shown.{still_shows}
-use Rattle.o2_chain.proofs.HomePlans.{only_home}
+use Rattle.o2_view.proofs.HomePlans.{only_home}
 use Rattle.o2_chain.proofs.edit.plan_group.Goals as goal
 
 pub returns-clause-planned : goal.returns-clause-planned

@@ -8,12 +8,12 @@ use Rattle.o2_model.specs.Volume.{Volume, blocks, over}
 use Rattle.o2_view.specs.Views.{Shows, with_block}
 use Rattle.o2_chain.specs.declared.group.Group.{Group}
 use Rattle.o2_chain.specs.Edits.{AreEditedGroups, shares, shared_by, shared_bits, shared_blocks}
-use Rattle.o2_chain.specs.HomePlans.{PlansHome, PlansOnly}
+use Rattle.o2_view.specs.HomePlans.{PlansHome, PlansOnly}
 use Rattle.o2_chain.specs.Walks.{group_in, judged_as}
 use Rattle.o2_chain.proofs.ChainCounts.{walked_more, shared_more}
 use Rattle.o2_chain.proofs.EditedGroups.{none_before, none_last, edited_none, edited_more, taken_differ, some_shared, none_shared}
 use Rattle.o2_chain.proofs.Groups.{groups_met, blocks_apart}
-use Rattle.o2_chain.proofs.HomePlans.{home_both, only_both}
+use Rattle.o2_view.proofs.HomePlans.{home_both, only_both}
 use Rattle.o2_chain.proofs.edit.plan_groups.Goals.{then-range+else-not-has_place+in_ok-plan_group, else-range}
 use Rattle.o2_chain.proofs.edit.plan_groups.Goals as goal
 

@@ -4,7 +4,7 @@ use Rattle.o2_model.specs.declared.allocator.Allocator.{Allocator}
 use Rattle.o2_model.specs.Volume.{Volume}
 use Rattle.o2_view.specs.Views.{Shows}
 use Rattle.o2_chain.specs.Edits.{AreEditedGroups, shared_by, shared_blocks}
-use Rattle.o2_chain.specs.HomePlans.{PlansHome, PlansOnly}
+use Rattle.o2_view.specs.HomePlans.{PlansHome, PlansOnly}
 use Rattle.o2_chain.specs.Walks.{group_in}
 use Rattle.o2_chain.proofs.edit.plan_groups.Given as goal
 

@@ -9,7 +9,7 @@ use Rattle.o2_view.specs.Views.{with_block}
 use Rattle.o2_chain.specs.Edits.{shares, shared_by, shared_blocks, edited_blocks}
 use Rattle.o2_chain.specs.Walks.{group_in, judged_as}
 use Rattle.o2_chain.proofs.EditedGroups.{among_none, apart_from_dinode, all_edited, none_edited, unchanged_group, unchanged_dinode}
-use Rattle.o2_chain.proofs.HomePlans.{only_both}
+use Rattle.o2_view.proofs.HomePlans.{only_both}
 use Rattle.o2_chain.proofs.edit.plan_run.Goals as goal
 
 -- what the test of a count says

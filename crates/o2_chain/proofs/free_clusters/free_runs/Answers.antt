@@ -18,9 +18,10 @@ use Rattle.o2_view.proofs.Shown.{still_shows}
 use Rattle.o2_extent.proofs.Views.{only_none, only_both, still_in}
 use Rattle.o2_chain.specs.Faults.{ChainFails, IsFaultOfView}
 use Rattle.o2_chain.specs.FreeGroups.{first_cluster}
-use Rattle.o2_chain.specs.FreeRuns.{is_free, is_of_runs, no_bad_group}
+use Rattle.o2_view.specs.FreeRuns.{is_of_runs}
+use Rattle.o2_chain.specs.FreeRuns.{is_free, no_bad_group}
 use Rattle.o2_chain.specs.declared.fault.ChainFault.{ChainFault}
-use Rattle.o2_chain.specs.RunLists.{end_of_runs}
+use Rattle.o2_view.specs.RunLists.{end_of_runs}
 use Rattle.o2_chain.specs.Walks.{judged_as, group_in}
 use Rattle.o2_chain.specs.declared.group.Group.{Group}
 use Rattle.o2_chain.proofs.ClearClusters.{free_more, free_in_order}

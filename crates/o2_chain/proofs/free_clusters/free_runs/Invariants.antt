@@ -4,8 +4,9 @@ use Rattle.o2_model.specs.Volume.{Volume}
 use Rattle.o2_view.specs.Counted.{CallsAtMost}
 use Rattle.o2_view.specs.Views.{view_state, Shows, OnlyReads}
 use Rattle.o2_chain.specs.FreeGroups.{first_cluster}
-use Rattle.o2_chain.specs.FreeRuns.{is_free, is_of_runs}
-use Rattle.o2_chain.specs.RunLists.{end_of_runs}
+use Rattle.o2_view.specs.FreeRuns.{is_of_runs}
+use Rattle.o2_chain.specs.FreeRuns.{is_free}
+use Rattle.o2_view.specs.RunLists.{end_of_runs}
 use Rattle.o2_chain.specs.Walks.{judged_as, group_in}
 use Rattle.o2_chain.specs.declared.group.Group.{Group}
 use Rattle.o2_chain.proofs.free_clusters.free_runs.Given as goal

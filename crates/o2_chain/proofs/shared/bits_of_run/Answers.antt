@@ -4,7 +4,7 @@ use Rattle.o2_model.specs.declared.geo.Geo.{Geo}
 use Rattle.o2_model.specs.Clusters.{cluster_of}
 use Rattle.o2_model.specs.ClusterGroups.{group_size, group_index}
 use Rattle.o2_model.specs.Checks.ClusterAllocBit.{cluster_of_bit}
-use Rattle.o2_chain.specs.FreeRuns.{is_of_run}
+use Rattle.o2_view.specs.FreeRuns.{is_of_run}
 use Rattle.o2_chain.specs.Walks.{group_in}
 use Rattle.o2_chain.proofs.Counts.{count_between, between}
 use Rattle.o2_chain.proofs.shared.bits_of_run.Goals as goal

@@ -1,8 +1,8 @@
 -- The runs end where the last one does.
 use Rattle.std.proofs.Common.{◌-◌, length, arith}
 use Rattle.std.proofs.lemmas.Bool.Decides.{nat_tests}
-use Rattle.o2_chain.proofs.RunLists.{ends_with}
-use Rattle.o2_chain.proofs.run_list.ends_at.Goals as goal
+use Rattle.o2_view.proofs.RunLists.{ends_with}
+use Rattle.o2_view.proofs.run_list.ends_at.Goals as goal
 
 pub returns-then-last-first-clause-meets : goal.returns-then-last-first-clause-meets
 returns-then-last-first-clause-meets c meets =

@@ -1,11 +1,10 @@
 // Runs of clusters, of which the last may grow.
 ghost use Rattle.std.specs.Prelude.{◌≡◌, ◌+◌, ◌<◌, ◌≤◌, ◌≢◌, ◌^◌, [], true, false, length, OnOk};
-ghost use Rattle.o2_chain.specs.FreeRuns.{RiseApartFrom};
-ghost use Rattle.o2_chain.specs.RunLists.{end_of_runs, Gains};
+ghost use Rattle.o2_view.specs.FreeRuns.{RiseApartFrom};
+ghost use Rattle.o2_view.specs.RunLists.{end_of_runs, Gains};
 
+use crate::{Run, Runs};
 use o2_disk::NoMemory;
-use o2_extent::put;
-use o2_view::{Run, Runs};
 use std::alloc::Global;
 use std::marker::Model;
 
@@ -18,7 +17,7 @@ pub struct RunList {
 impl Model for RunList {
     ghost use Rattle.std.specs.Prelude.{List};
     ghost use Rattle.o2_view.specs.declared.run.Run.{Run as Clusters};
-    ghost use Rattle.o2_chain.specs.FreeRuns.{RiseApartFrom};
+    ghost use Rattle.o2_view.specs.FreeRuns.{RiseApartFrom};
 
     ghost Value = { List Clusters };
 
@@ -61,7 +60,10 @@ impl RunList {
                 start: first,
                 clusters: count,
             };
-            return put(&mut self.runs, run);
+            let Ok(()) = self.runs.push(run) else {
+                return Err(NoMemory);
+            };
+            return Ok(());
         }
         if let Some(last) = self.runs.last_mut() {
             last.clusters += count;

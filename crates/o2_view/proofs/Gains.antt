@@ -4,8 +4,8 @@ use Rattle.std.specs.Prelude.{nat_le, nat_lt}
 use Rattle.std.proofs.lemmas.Bool.{cases_Bool}
 use Rattle.std.proofs.lemmas.Bool.Decides.{nat_tests}
 use Rattle.o2_view.specs.declared.run.Run.{Run}
-use Rattle.o2_chain.specs.FreeRuns.{is_of_runs}
-use Rattle.o2_chain.specs.RunLists.{end_of_runs, is_gained, Gains}
+use Rattle.o2_view.specs.FreeRuns.{is_of_runs}
+use Rattle.o2_view.specs.RunLists.{end_of_runs, is_gained, Gains}
 
 -- the cluster is one of the stretch
 is_in : ℕ → ℕ → ℕ → Bool

@@ -17,7 +17,7 @@ use Rattle.o2_view.specs.Geos.{LiesIn}
 use Rattle.o2_view.specs.Plans.{home_at, with_home}
 use Rattle.o2_view.specs.Views.{view_state, view_plan, OnlyReads, OnlyPlans}
 use Rattle.o2_view.specs.declared.view.View.{View}
-use Rattle.o2_chain.specs.HomePlans.{PlansHome, PlansOnly}
+use Rattle.o2_view.specs.HomePlans.{PlansHome, PlansOnly}
 
 -- ---- the home blocks of a plan
 -- an entry that is put leaves those of other keys

@@ -1,7 +1,7 @@
 -- Lists of runs of clusters that grow at their end.
 use Rattle.std.specs.Prelude.{◌≡◌, ℕ, ◌+◌, ◌-◌, ◌≤◌, Bool, ◌&&◌, ◌||◌, nat_le, nat_lt, List, [], ◌∷◌}
 use Rattle.o2_view.specs.declared.run.Run.{Run}
-use Rattle.o2_chain.specs.FreeRuns.{is_of_runs}
+use Rattle.o2_view.specs.FreeRuns.{is_of_runs}
 
 -- the cluster behind the last of the runs, or else this one
 abbrev pub end_from : ℕ → List Run → ℕ

@@ -4,8 +4,8 @@ use Rattle.std.specs.Prelude.{◌≢◌}
 use Rattle.std.proofs.lemmas.Bool.Decides.{nat_tests}
 use Rattle.std.proofs.lemmas.List.Folds.{list_any-append}
 use Rattle.o2_view.specs.declared.run.Run.{Run}
-use Rattle.o2_chain.specs.FreeRuns.{is_of_run, is_of_runs, RiseApartFrom}
-use Rattle.o2_chain.specs.RunLists.{end_from, end_of_runs, is_gained, Gains}
+use Rattle.o2_view.specs.FreeRuns.{is_of_run, is_of_runs, RiseApartFrom}
+use Rattle.o2_view.specs.RunLists.{end_from, end_of_runs, is_gained, Gains}
 
 -- ---- one run more
 end_push : (low : ℕ) (runs : List Run) (run : Run) → end_from low (runs ++ run ∷ []) ≡ run.start + run.clusters
