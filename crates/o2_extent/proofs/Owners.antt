@@ -1,7 +1,7 @@
 -- What is read of an index root or of a refcount root, by what its fields say.
-use Rattle.std.proofs.Common.{◌≡◌, ℕ, ◌-◌, ◌/◌, true, false, List, [], refl, arith, Some, None}
+use Rattle.std.proofs.Common.{◌≡◌, inl, inr, ℕ, suc, ◌-◌, ◌/◌, Bool, ◌&&◌, true, false, ◌==◌, List, [], ◌∷◌, length, refl, arith, Some, None}
+use Rattle.std.proofs.lemmas.Bool.{cases_Bool}
 use Rattle.std.proofs.lemmas.Bool.Decides.{nat_tests}
-use Rattle.o2_ondisk.specs.Bits.{has_bits, tree_refcount_flag}
 use Rattle.o2_ondisk.specs.DxRoots.{dx_root_list_place}
 use Rattle.o2_model.specs.Orders.{is_none_of}
 use Rattle.o2_model.specs.declared.leaf.Leaf.{Leaf}
@@ -9,9 +9,13 @@ use Rattle.o2_model.specs.Volume.{Volume, block_size}
 use Rattle.o2_model.specs.Extents.{read_list}
 use Rattle.o2_model.specs.Extents.LeafRule.{ToClusters, ToBlocks}
 use Rattle.o2_model.specs.Indexes.{dx_root, index_root, is_index_root, is_inline_index, is_sound_dx_list, index_extents}
-use Rattle.o2_model.specs.RefcountTrees.{refcount_block, is_refcount_block, most_in_refcount_block, leaf_list}
+use Rattle.o2_model.specs.RefcountTrees.{is_refcount_block, has_leaf_blocks, most_in_refcount_block, leaf_list}
 use Rattle.o2_model.specs.Checks.RefTree.{is_sound_root_block}
 use Rattle.o2_extent.specs.Owners.{is_some_index_root, index_list, is_sound_index_root, where_sound}
+
+first_holds : (a b : Bool) → (a && b) ≡ true → a ≡ true
+first_holds true b both = refl
+first_holds false b both = both
 
 -- ---- an index root
 pub no_index_root : (v : Volume) (b : ℕ) → is_some_index_root v b ≡ false → None ≡ where_sound (is_sound_index_root v b) (index_list v b).leaves
@@ -42,15 +46,32 @@ unfolding index_extents index_list
 list_of_index v d is = rw (names_directory v d (index_root v d) is) refl
 
 -- ---- a refcount root
-pub no_refcount_root : (v : Volume) (b : ℕ) → is_refcount_block v b ≡ false → None ≡ where_sound (is_sound_root_block v b) (leaf_list v b).leaves
-no_refcount_root v b other = rw other refl
+no_number : (n : ℕ) → (suc n == 0) ≡ false
+no_number n = grind (arith, nat_tests)
 
-pub no_leaf_blocks : (v : Volume) (b : ℕ) → is_refcount_block v b ≡ true → has_bits (refcount_block v b).flags tree_refcount_flag ≡ false → Some [] ≡ where_sound (is_sound_root_block v b) (leaf_list v b).leaves
-unfolding leaf_list
-no_leaf_blocks v b is none = rw (is, none) refl
+pub none_by_length : (xs : List ℕ) → (length xs == 0) ≡ is_none_of xs
+none_by_length [] = refl
+none_by_length (x ∷ xs) = no_number (length xs)
 
-pub leaf_blocks_by_list : (v : Volume) (b : ℕ) → is_refcount_block v b ≡ true → has_bits (refcount_block v b).flags tree_refcount_flag ≡ true → (leaves : List Leaf) (faults : List ℕ)
-    → leaves ≡ (read_list v ToBlocks b 0x80 (most_in_refcount_block v)).leaves → faults ≡ (read_list v ToBlocks b 0x80 (most_in_refcount_block v)).faults
-    → where_sound (is_none_of faults) leaves ≡ where_sound (is_sound_root_block v b) (leaf_list v b).leaves
+pub no_leaf_blocks : (v : Volume) (b : ℕ) → has_leaf_blocks v b ≡ false → [] ≡ (leaf_list v b).leaves
 unfolding leaf_list
-leaf_blocks_by_list v b is has leaves faults same none = rw (is, has, same, none) refl
+no_leaf_blocks v b none = rw none refl
+
+-- with no list the root itself is judged
+pub sound_block : (v : Volume) (b : ℕ) → has_leaf_blocks v b ≡ false → is_refcount_block v b ≡ is_sound_root_block v b
+unfolding leaf_list
+sound_block v b none = elim (cases_Bool (is_refcount_block v b)) [
+  | inl is ↦ rw (none, is) refl
+  | inr other ↦ rw other refl
+]
+
+pub leaves_of_list : (v : Volume) (b : ℕ) → has_leaf_blocks v b ≡ true → (read_list v ToBlocks b 0x80 (most_in_refcount_block v)).leaves ≡ (leaf_list v b).leaves
+unfolding leaf_list
+leaves_of_list v b has = rw has refl
+
+-- with a list that is judged too
+pub sound_list : (v : Volume) (b : ℕ) → has_leaf_blocks v b ≡ true → is_none_of (read_list v ToBlocks b 0x80 (most_in_refcount_block v)).faults ≡ is_sound_root_block v b
+unfolding leaf_list
+sound_list v b has =
+    let is : is_refcount_block v b ≡ true = first_holds _ _ has in
+    rw (has, is) refl

@@ -1,9 +1,11 @@
 -- Calls that only read, one after the other.
-use Rattle.std.proofs.Common.{ℕ, ◌<◌, List, refl, sym, ◌∙◌, arith}
+use Rattle.std.proofs.Common.{ℕ, ◌-◌, ◌*◌, ◌^◌, ◌<◌, ◌≤◌, List, refl, sym, ◌∙◌, arith}
+use Rattle.std.proofs.Math.Nat.{mul-le-mul_right}
+use Rattle.std.proofs.Math.Pow.{pow_mono}
 use Rattle.o2_disk.specs.declared.disk.Disk as disk
 use Rattle.o2_disk.proofs.Moments.{reads_none, reads_both}
 use Rattle.o2_model.specs.declared.geo.Geo.{Geo}
-use Rattle.o2_view.specs.Geos.{LiesIn}
+use Rattle.o2_view.specs.Geos.{LiesIn, blocks_of}
 use Rattle.o2_view.specs.Views.{view_state, view_blocks, OnlyReads}
 use Rattle.o2_view.specs.declared.view.View.{View}
 use Rattle.o2_extent.specs.Readings.{LooksAtMost}
@@ -41,6 +43,12 @@ module _ {D : Type 0} {N : ℕ} {g : disk.Ghosts D} where
   -- a volume's view has a block, that of the root directory
   pub some_blocks : {geo : Geo} {view : View D N g} → LiesIn geo view → 0 < view_blocks view
   some_blocks {geo} {view} h = omega (arith, h.numbers.root, h.within)
+
+  -- the numbers of its blocks have 64 bits
+  pub few_blocks : {geo : Geo} {view : View D N g} → LiesIn geo view → blocks_of geo < 2 ^ 64
+  few_blocks {geo} {view} h =
+      let some : 1 ≤ 2 ^ (view.block_bits - 9) = pow_mono {i = 0} {j = view.block_bits - 9} (omega arith) in
+      omega (arith, mul-le-mul_right view.blocks some, view.sized.few, h.within)
 
   pub looks_none : (seen : List ℕ) (view : View D N g) → LooksAtMost seen seen view view
   looks_none seen view = record { grew = omega arith; calls = λ I told. omega arith }

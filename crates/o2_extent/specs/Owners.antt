@@ -1,6 +1,8 @@
 -- The owners of leaf records: dinodes, index roots and refcount roots.
-use Rattle.std.specs.Prelude.{ℕ, ◌-◌, ◌/◌, Bool, ◌&&◌, ◌||◌, not, ◌==◌, List, [], ◌∷◌, Option, Some, None, if◌then◌else◌}
-use Rattle.o2_ondisk.specs.DxRoots.{dx_root_list_place, dx_root_records_place}
+use Rattle.std.specs.Prelude.{◌≡◌, ℕ, ◌+◌, ◌-◌, ◌*◌, ◌/◌, ◌≤◌, Bool, true, ◌&&◌, ◌||◌, not, ◌==◌, List, [], ◌∷◌, length, drop, Option, Some, None, if◌then◌else◌}
+use Rattle.o2_ondisk.specs.Bits.{has_bits, inline_index_flag}
+use Rattle.o2_ondisk.specs.DxListHeaders.{dx_list_header_of}
+use Rattle.o2_ondisk.specs.DxRoots.{dx_root_of, dx_root_list_place, dx_root_records_place}
 use Rattle.o2_ondisk.specs.Signatures.{dx_root_signature, refcount_block_signature}
 use Rattle.o2_model.specs.Orders.{is_none_of}
 use Rattle.o2_model.specs.declared.check.Check.TheVariants as check
@@ -42,6 +44,12 @@ unfoldable pub is_sound_index_root : Volume → ℕ → Bool
 is_sound_index_root v b =
     is_some_index_root v b
     && (if is_inline_index v b then is_sound_dx_list v dx_root_list_place b else is_none_of (index_list v b).faults)
+
+-- where the entries of an index stand in a root of these bytes, they lie within it
+abbrev pub HasRoomForEntries : List ℕ → Type 0
+HasRoomForEntries bytes =
+    has_bits (dx_root_of bytes).flags inline_index_flag ≡ true
+    → dx_root_list_place + 8 + 16 * (dx_list_header_of (drop dx_root_list_place bytes)).num_used ≤ length bytes
 
 -- ---- any owner
 -- what is read of the owner's list, where it has one

@@ -35,7 +35,7 @@ pub fn read_block_list<D: Disk, const N: usize>(
     requires size { length bytes.now ≡ 2 ^ geo.now.block_bits }
     requires place { at + 0x10 ≤ 512 }
     ensures read { IfOk result (λ reading. (v : Volume) → ShowsBytes view.old geo.now holder bytes.now v
-        → Keeps reading (read_list v (rule_of rule) holder at ((block_size v - (at + 0x10)) / 16))) }
+        → Keeps v reading (read_list v (rule_of rule) holder at ((block_size v - (at + 0x10)) / 16))) }
     ensures within { IfOk result (λ reading. tells_clusters rule ≡ true → Within geo.now reading.leaves.items) }
     // The disk is called for the extent blocks alone.
     ensures count { CallsBut 1 (view_blocks view.old) (view_state view.old) (view_state view.new) }

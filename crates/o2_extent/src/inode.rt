@@ -38,7 +38,7 @@ pub fn read_own_list<D: Disk, const N: usize>(
 ) -> Result<Reading, ViewFault>
     requires geo { LiesIn geo.now view.old }
     requires size { length bytes.now ≡ 2 ^ geo.now.block_bits }
-    ensures read { IfOk result (λ reading. (v : Volume) → ShowsBytes view.old geo.now owner bytes.now v → Keeps reading (extents v owner)) }
+    ensures read { IfOk result (λ reading. (v : Volume) → ShowsBytes view.old geo.now owner bytes.now v → Keeps v reading (extents v owner)) }
     ensures within { IfOk result (λ reading. Within geo.now reading.leaves.items) }
     ensures count { CallsBut 1 (view_blocks view.old) (view_state view.old) (view_state view.new) }
     ensures reads { OnlyReads view.old view.new }
@@ -65,7 +65,7 @@ pub fn read_inode<D: Disk, const N: usize>(
     ensures block { IfOk result (λ inode. (v : Volume) → Shows view.old geo.now v → inode.block ≡ v.at owner) }
     ensures size { IfOk result (λ inode. length inode.block ≡ 2 ^ geo.now.block_bits) }
     ensures long { IfOk result (λ inode. 512 ≤ length inode.block) }
-    ensures read { IfOk result (λ inode. (v : Volume) → Shows view.old geo.now v → Keeps inode.reading (extents v owner)) }
+    ensures read { IfOk result (λ inode. (v : Volume) → Shows view.old geo.now v → Keeps v inode.reading (extents v owner)) }
     ensures within { IfOk result (λ inode. Within geo.now inode.reading.leaves.items) }
     ensures count { CallsAtMost (view_blocks view.old) (view_state view.old) (view_state view.new) }
     ensures reads { OnlyReads view.old view.new }

@@ -105,6 +105,7 @@ pub fn add_bytes<D: Disk, const N: usize>(
     requires order { at ≤ end }
     ensures bytes { OnOk result ((v : Volume) → Shows view.old geo.now v
         → out.new.items ≡ out.old.items ++ map (byte_of v leaves.now) (range_with_len at (end - at))) }
+    ensures long { OnOk result (length out.new.items ≡ length out.old.items + (end - at)) }
     ensures reads { OnlyReads view.old view.new }
     ensures fails { IfErr result (BlockFails view.old view.new) }
 {

@@ -15,7 +15,7 @@ ghost use Rattle.o2_extent.specs.Rules.{rule_of, tells_clusters};
 
 use crate::geometry::{block_bytes, is_block_in_range};
 use crate::list::{header_at, is_sound, records_at};
-use crate::reading::{Reading, add_fault, add_leaf, add_seen, has_seen};
+use crate::reading::{Reading, add_block, add_fault, add_leaf, add_seen, has_seen};
 use crate::rule::LeafRule;
 use o2_disk::{Disk, NoMemory};
 use o2_model::Geo;
@@ -31,8 +31,8 @@ fn read_leaf(
     reading: &mut Reading,
 ) -> Result<bool, NoMemory>
     requires { HasSizes geo.now }
-    ensures good { IfOk result (λ good. good ≡ true → (v : Volume) → v.geo ≡ geo.now → (t : Extents) → Keeps reading.old t → GoesOn v (rule_of rule) t r.now reading.new) }
-    ensures bad { IfOk result (λ good. good ≡ false → (v : Volume) → v.geo ≡ geo.now → (t : Extents) → Keeps reading.old t → Stops v (rule_of rule) t r.now reading.new) }
+    ensures good { IfOk result (λ good. good ≡ true → (v : Volume) → v.geo ≡ geo.now → (t : Extents) → Keeps v reading.old t → GoesOn v (rule_of rule) t r.now reading.new) }
+    ensures bad { IfOk result (λ good. good ≡ false → (v : Volume) → v.geo ≡ geo.now → (t : Extents) → Keeps v reading.old t → Stops v (rule_of rule) t r.now reading.new) }
     ensures seen { reading.new.seen ≡ reading.old.seen }
     ensures within { tells_clusters rule ≡ true → Within geo.now reading.old.leaves.items → Within geo.now reading.new.leaves.items }
 {
@@ -55,8 +55,8 @@ fn read_leaves(
     reading: &mut Reading,
 ) -> Result<(), NoMemory>
     requires { HasSizes geo.now }
-    ensures read { OnOk result ((v : Volume) → v.geo ≡ geo.now → (t : Extents) → Keeps reading.old t
-        → Keeps reading.new (read_records v (rule_of rule) 0 holder 0 records.now t)) }
+    ensures read { OnOk result ((v : Volume) → v.geo ≡ geo.now → (t : Extents) → Keeps v reading.old t
+        → Keeps v reading.new (read_records v (rule_of rule) 0 holder 0 records.now t)) }
     ensures seen { reading.new.seen ≡ reading.old.seen }
     ensures within { tells_clusters rule ≡ true → Within geo.now reading.old.leaves.items → Within geo.now reading.new.leaves.items }
 {
@@ -115,10 +115,11 @@ fn meet(
     ensures records { IfOk result (λ records. (v : Volume) → v.geo ≡ geo.now → bytes.now ≡ v.at b
         → records.items ≡ records_in_block v b) }
     ensures met { OnOk result ((v : Volume) → v.geo ≡ geo.now → bytes.now ≡ v.at b
-        → (t : Extents) → Keeps reading.old t → Keeps reading.new (with_met v b t)) }
+        → (t : Extents) → Keeps v reading.old t → Keeps v reading.new (with_met v b t)) }
     ensures seen { reading.new.seen ≡ reading.old.seen }
     ensures leaves { reading.new.leaves ≡ reading.old.leaves }
 {
+    add_block(reading, b, bytes)?;
     let header = header_at(bytes, 0x30);
     if !is_sound(&header, (block_bytes(geo) - 0x40) / 16) {
         add_fault(reading, b)?;
@@ -153,9 +154,9 @@ fn enter<D: Disk, const N: usize>(
 ) -> Result<Option<Vec<ExtentRec>>, ViewFault>
     requires geo { LiesIn geo.now view.old }
     requires inner { 0 < depth }
-    ensures bad { IfOk result (λ found. IfNone found ((v : Volume) → Shows view.old geo.now v → (rule : Rule) (rs : List Record) (t : Extents) → Keeps reading.old t
-        → Keeps reading.new (read_records v rule depth holder low (r.now ∷ rs) t))) }
-    ensures good { IfOk result (λ found. IfSome found (λ below. (v : Volume) → Shows view.old geo.now v → (t : Extents) → Keeps reading.old t
+    ensures bad { IfOk result (λ found. IfNone found ((v : Volume) → Shows view.old geo.now v → (rule : Rule) (rs : List Record) (t : Extents) → Keeps v reading.old t
+        → Keeps v reading.new (read_records v rule depth holder low (r.now ∷ rs) t))) }
+    ensures good { IfOk result (λ found. IfSome found (λ below. (v : Volume) → Shows view.old geo.now v → (t : Extents) → Keeps v reading.old t
         → Enters v depth low t r.now reading.new below.items)) }
     ensures leaves { reading.new.leaves ≡ reading.old.leaves }
     ensures apart { Apart (view_blocks view.old) reading.old.seen → Apart (view_blocks view.old) reading.new.seen }
@@ -191,8 +192,8 @@ pub fn read_into<D: Disk, const N: usize>(
     reading: &mut Reading,
 ) -> Result<(), ViewFault>
     requires geo { LiesIn geo.now view.old }
-    ensures read { OnOk result ((v : Volume) → Shows view.old geo.now v → (t : Extents) → Keeps reading.old t
-        → Keeps reading.new (read_records v (rule_of rule) depth holder 0 records.now t)) }
+    ensures read { OnOk result ((v : Volume) → Shows view.old geo.now v → (t : Extents) → Keeps v reading.old t
+        → Keeps v reading.new (read_records v (rule_of rule) depth holder 0 records.now t)) }
     ensures within { tells_clusters rule ≡ true → Within geo.now reading.old.leaves.items → Within geo.now reading.new.leaves.items }
     ensures apart { Apart (view_blocks view.old) reading.old.seen → Apart (view_blocks view.old) reading.new.seen }
     ensures count { LooksAtMost reading.old.seen reading.new.seen view.old view.new }

@@ -24,7 +24,7 @@ returns-then-not-is_sound-clause-read g c v seen =
     let h = c.header_at-header.result in
     let is : h ≡ extent_list_header_of (drop at (v.at c.args.holder)) = c.header_at-header.ensures ∙ ap (λ bs. extent_list_header_of (drop at bs)) bytes in
     let bad : is_sound_header most h ≡ false = rw size at (sym c.is_sound.ensures.test ∙ c.if-not-is_sound.true) in
-    subst (Keeps c.add_fault.new.reading) (bad_head v (rule_of c.args.rule) c.args.holder at most h is bad) (c.in_ok-add_fault.ensures.added nothing_read c.start-reading.ensures.keeps)
+    subst (Keeps v c.add_fault.new.reading) (bad_head v (rule_of c.args.rule) c.args.holder at most h is bad) (c.in_ok-add_fault.ensures.added v nothing_read (c.start-reading.ensures.keeps v))
 
 pub returns-clause-read : goal.returns-clause-read
 returns-clause-read g c v seen =
@@ -37,7 +37,7 @@ returns-clause-read g c v seen =
     let is : h ≡ extent_list_header_of (drop at (v.at c.args.holder)) = c.header_at-header.ensures ∙ ap (λ bs. extent_list_header_of (drop at bs)) bytes in
     let sound : is_sound_header most h ≡ true = rw size at (sym c.is_sound.ensures.test ∙ c.if-not-is_sound.false) in
     let are : c.as_slice.result.now ≡ table extent_rec_of 16 (at + 0x10) h.next_free_rec (v.at c.args.holder) = c.as_slice.ensures.value ∙ (c.in_ok-records.ensures ∙ ap (table extent_rec_of 16 (at + 0x10) h.next_free_rec) bytes) in
-    subst (Keeps c.read_into.new.reading) (good_head v (rule_of c.args.rule) c.args.holder at most h c.as_slice.result.now is are sound) (c.in_ok-read_into.ensures.read v shows nothing_read c.start-reading.ensures.keeps)
+    subst (Keeps v c.read_into.new.reading) (good_head v (rule_of c.args.rule) c.args.holder at most h c.as_slice.result.now is are sound) (c.in_ok-read_into.ensures.read v shows nothing_read (c.start-reading.ensures.keeps v))
 
 pub returns-in_err-read_into-clause-count : goal.returns-in_err-read_into-clause-count
 returns-in_err-read_into-clause-count g c I told =

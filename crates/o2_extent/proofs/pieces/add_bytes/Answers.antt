@@ -34,6 +34,7 @@ loop-next-preserved g c = record {
       ∙ ap (λ xs. c.args.out.now.items ++ xs)
       (ap (λ a. map f (range_with_len at (next - at)) ++ map f (range_with_len a count)) (sym there)
       ∙ (sym (range_split f at (next - at) count) ∙ ap (λ k. map f (range_with_len at k)) (sym more))))));
+  long = omega (arith, c.in_ok-add_piece.ensures.long, c.loop-next.invariant.long, c.loop-next.invariant.low);
   low = omega (arith, c.loop-next.invariant.low);
   high = omega (arith, c.loop-next-test.true, c.min-count.ensures);
   reads = only_both c.loop-next.invariant.reads c.add_piece.ensures.reads;

@@ -15,7 +15,7 @@ read_into-requires g t c κs within = (search rules, (search rules, (search rule
 
 pub returns-then-depth-eq0-clause-read : goal.returns-then-depth-eq0-clause-read
 returns-then-depth-eq0-clause-read g m c v shows t k =
-    subst (λ d. Keeps c.read_leaves.new.reading (read_records v (rule_of c.args.rule) d c.args.holder 0 c.args.records.now t)) (sym c.if-depth-eq0.true) (c.in_ok-read_leaves.ensures.read v shows.numbers t k)
+    subst (λ d. Keeps v c.read_leaves.new.reading (read_records v (rule_of c.args.rule) d c.args.holder 0 c.args.records.now t)) (sym c.if-depth-eq0.true) (c.in_ok-read_leaves.ensures.read v shows.numbers t k)
 
 pub returns-in-None-clause-read : goal.returns-in-None-clause-read
 returns-in-None-clause-read g m c v shows t k =
@@ -23,14 +23,14 @@ returns-in-None-clause-read g m c v shows t k =
     let i = c.loop-r.r-index in
     let left = c.loop-r.invariant.read v shows t k in
     let bad = rw c.in-None.is at c.in_ok-below.ensures.bad in
-    subst (Keeps _)
+    subst (Keeps v _)
     (sym (first_left v (rule_of c.args.rule) c.args.depth c.args.holder c.loop-r.low rs i _ left.now c.loop-r-test.true) ∙ left.gives)
     (bad v (still_shows c.loop-r.invariant.reads shows) (rule_of c.args.rule) (drop (i + 1) rs) left.now left.keeps)
 
 pub returns-clause-read : goal.returns-clause-read
 returns-clause-read g m c v shows t k =
     let left = c.loop-r.invariant.read v shows t k in
-    subst (Keeps c.loop-r.reading)
+    subst (Keeps v c.loop-r.reading)
     (sym (ap (λ rs. read_records v (rule_of c.args.rule) c.args.depth c.args.holder c.loop-r.low rs left.now) (drop_all c.loop-r.r-index c.args.records.now c.loop-r-test.false)) ∙ left.gives)
     left.keeps
 

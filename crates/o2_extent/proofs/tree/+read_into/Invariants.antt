@@ -10,7 +10,7 @@ use Rattle.o2_extent.proofs.tree.+read_into.Given as goal
 
 abbrev pub invariant-loop-r : goal.invariant-loop-r
 invariant-loop-r g l = record {
-  read : (v : Volume) → Shows l.fn.view l.geo v → (t : Extents) → Keeps l.fn.reading t
+  read : (v : Volume) → Shows l.fn.view l.geo v → (t : Extents) → Keeps v l.fn.reading t
       → Left v (rule_of l.rule) l.depth l.holder l.low (drop l.r-index l.records) l.reading (read_records v (rule_of l.rule) l.depth l.holder 0 l.records t);
   apart : Apart (view_blocks l.fn.view) l.fn.reading.seen → Apart (view_blocks l.fn.view) l.reading.seen;
   count : LooksAtMost l.fn.reading.seen l.reading.seen l.fn.view l.view;

@@ -4,7 +4,7 @@ use Rattle.o2_model.specs.Extents.{names_new_block, is_extent_block, with_seen}
 use Rattle.o2_model.proofs.Looks.{new_below}
 use Rattle.o2_view.specs.Geos.{bare}
 use Rattle.o2_extent.specs.Readings.{Keeps}
-use Rattle.o2_extent.proofs.Steps.{other_block, seen_apart}
+use Rattle.o2_extent.proofs.Steps.{old_block, other_block, seen_apart}
 use Rattle.o2_extent.proofs.tree.enter.Goals as goal
 
 pub look-requires : goal.look-requires
@@ -42,5 +42,23 @@ returns-then-not-has_extent_block-clause-bad g c v shows m rs t k =
     let names : names_new_block v c.args.low t.seen r ≡ true = subst (λ s. names_new_block v c.args.low s r ≡ true) k.seen (sym (c.may_look.ensures v shows.numbers) ∙ c.if-not-may_look.false) in
     let bytes : c.as_slice-bytes.result.now ≡ v.at r.blkno = c.as_slice-bytes.ensures ∙ c.in_ok-block.ensures.bytes v shows in
     let bad : is_extent_block v (c.args.depth - 1) r.blkno ≡ false = sym (c.has_extent_block.ensures v shows.numbers bytes) ∙ c.if-not-has_extent_block.true in
-    subst (Keeps _) (sym (other_block v m c.args.depth c.args.holder c.args.low r rs t c.requires.inner names bad))
-    (c.in_ok-add_fault-2.ensures.added (with_seen t r.blkno) (c.in_ok-add_seen.ensures.added t k))
+    subst (Keeps v _) (sym (other_block v m c.args.depth c.args.holder c.args.low r rs t c.requires.inner names bad))
+    (c.in_ok-add_fault-2.ensures.added v (with_seen t r.blkno) (c.in_ok-add_seen.ensures.added v t k))
+
+pub returns-then-not-may_look-clause-bad : goal.returns-then-not-may_look-clause-bad
+returns-then-not-may_look-clause-bad g c v shows m rs t k =
+    let r = c.args.r.now in
+    let old : names_new_block v c.args.low t.seen r ≡ false = subst (λ s. names_new_block v c.args.low s r ≡ false) k.seen (sym (c.may_look.ensures v shows.numbers) ∙ c.if-not-may_look.true) in
+    subst (Keeps v c.add_fault.new.reading) (sym (old_block v m c.args.depth c.args.holder c.args.low r rs t c.requires.inner old)) (c.in_ok-add_fault.ensures.added v t k)
+
+pub returns-clause-good : goal.returns-clause-good
+returns-clause-good g c v shows t k =
+    let r = c.args.r.now in
+    let names : names_new_block v c.args.low t.seen r ≡ true = subst (λ s. names_new_block v c.args.low s r ≡ true) k.seen (sym (c.may_look.ensures v shows.numbers) ∙ c.if-not-may_look.false) in
+    let bytes : c.as_slice-bytes.result.now ≡ v.at r.blkno = c.as_slice-bytes.ensures ∙ c.in_ok-block.ensures.bytes v shows in
+    record {
+      names = names;
+      is_one = sym (c.has_extent_block.ensures v shows.numbers bytes) ∙ c.if-not-has_extent_block.false;
+      records = c.in_ok-records.ensures.records v shows.numbers bytes;
+      keeps = c.in_ok-records.ensures.met v shows.numbers bytes (with_seen t r.blkno) (c.in_ok-add_seen.ensures.added v t k);
+    }
