@@ -116,11 +116,14 @@ module _ (label name : List ℕ) (old new : DiskState) (before after : SinkState
     answers : (cause : Cause) → IsAnswer None cause → (I : Image) → old.content ≡ Some I → IsAnswer (refusal_of label I) cause
     answers cause is I told = subst (λ (r : Option Cause). IsAnswer r cause) (sym (none I told)) is
 
-    pub ends_fine : Takes before after done_text → after.faults ≡ before.faults → LabelRun label name old new before after Fine
-    ends_fine all calm = record {
-      answer = answers Fine (inl refl);
-      range = λ which value is. absurd (let none : ⊥ = cc is in none);
-      causes = tt;
+    -- whether its text could be put or not
+    ends_given : (cause : Cause) → IsAnswer None cause → ((which : Which) (value : ℕ) → cause ≢ Range which value) → IsOfTunefs cause → (IsRefusal cause → ⊥) → cause ≢ DeviceFault
+        → reply_text cause ≡ done_text → ((Rose before.faults after.faults → ⊥) → Takes before after done_text)
+        → (cause ≡ Fine → after.faults ≡ before.faults) → (cause ≡ OutputFault → FailsLast before after) → LabelRun label name old new before after cause
+    ends_given cause answer in_range causes not_refused no_fault text all calm fails = record {
+      answer = answers cause answer;
+      range = λ which value is. absurd (in_range which value is);
+      causes = causes;
       named = λ other. named;
       at_most = inr named;
       done = λ is. done;
@@ -128,35 +131,24 @@ module _ (label name : List ℕ) (old new : DiskState) (before after : SinkState
       idle = idle;
       any_moment = any_moment;
       settled = λ is. settled;
-      refused = λ refused. absurd (let none : ⊥ = cc refused in none);
-      fault = λ is. absurd (let none : ⊥ = cc is in none);
-      output = λ quiet. all;
-      front = said;
+      refused = λ refused. absurd (not_refused refused);
+      fault = λ is. absurd (no_fault is);
+      output = λ quiet. subst (Takes before after) (sym text) (all quiet);
+      front = subst (TakesSome before after) (sym text) said;
       stops = stops;
-      fine = λ is. calm;
-      output_fault = λ is. absurd (let none : ⊥ = cc is in none);
+      fine = calm;
+      output_fault = fails;
     }
 
+    pub ends_fine : Takes before after done_text → after.faults ≡ before.faults → LabelRun label name old new before after Fine
+    ends_fine all calm =
+        ends_given Fine (inl refl) (λ which value is. cc is) tt (λ refused. cc refused) (λ is. cc is) refl
+        (λ quiet. all) (λ is. calm) (λ is. absurd (let none : ⊥ = cc is in none))
+
     pub ends_unsaid : FailsLast before after → LabelRun label name old new before after OutputFault
-    ends_unsaid fails = record {
-      answer = answers OutputFault (inr (inl refl));
-      range = λ which value is. absurd (let none : ⊥ = cc is in none);
-      causes = tt;
-      named = λ other. named;
-      at_most = inr named;
-      done = λ is. done;
-      either = either;
-      idle = idle;
-      any_moment = any_moment;
-      settled = λ is. settled;
-      refused = λ refused. absurd (let none : ⊥ = cc refused in none);
-      fault = λ is. absurd (let none : ⊥ = cc is in none);
-      output = λ quiet. absurd (quiet (fails_rose before after fails));
-      front = said;
-      stops = stops;
-      fine = λ is. absurd (let none : ⊥ = cc is in none);
-      output_fault = λ is. fails;
-    }
+    ends_unsaid fails =
+        ends_given OutputFault (inr (inl refl)) (λ which value is. cc is) tt (λ refused. cc refused) (λ is. cc is) refl
+        (λ quiet. absurd (quiet (fails_rose before after fails))) (λ is. absurd (let none : ⊥ = cc is in none)) (λ is. fails)
 
 -- nothing was begun, since memory ran out while the words were read
 pub not_begun : (label name : List ℕ) (d : DiskState) (only_now : (X : Image) → d.left_since d.moment X → d.may_leave X) (before after : SinkState) → StopsAtFault before after → Prints before after NoMemory

@@ -1,7 +1,8 @@
 -- The lines of the forms that are served.
-use Rattle.std.proofs.Common.{◌≡◌, ◌⊎◌, inl, inr, ⊎_elim, ℕ, zero, suc, ◌+◌, ◌<◌, List, [], ◌∷◌, take, drop, get_or, refl, sym, ◌∙◌, ap, subst, arith, codes, All, HoldsAt}
+use Rattle.std.proofs.Common.{◌≡◌, ◌⊎◌, inl, inr, ⊎_elim, ℕ, zero, suc, ◌+◌, ◌<◌, List, [], ◌∷◌, take, drop, get_or, refl, sym, ◌∙◌, ap, subst, arith, All, HoldsAt}
 use Rattle.std.proofs.lemmas.List.Elements.{All-nil}
-use Rattle.o2_words.specs.Kinds.{Fits}
+use Rattle.o2_words.specs.Names.{text_of}
+use Rattle.o2_words.specs.Kinds.{Fits, IsDevice}
 use Rattle.o2_words.specs.Parts.{MayBeLeft}
 use Rattle.o2_words.specs.Forms.{Words, Form, left_behind, IsReader, Leads, Matches, ReachesTo}
 use Rattle.o2_words.specs.CommandLine.{IsTunefs, IsDebugfs, IsLine, IsNotBuilt, RefusesWords, forms}
@@ -10,6 +11,7 @@ use Rattle.o2_words.specs.declared.form.TheConstants.{LABEL_FORM, DEBUG_FORM}
 use Rattle.o2_words.specs.declared.form.Part.TheVariants.{One}
 use Rattle.o2_words.specs.declared.kind.Kind.{Kind}
 use Rattle.o2_words.specs.declared.kind.Kind.TheVariants.{Fixed, Text, Device, Query}
+use Rattle.o2_words.specs.declared.name.Name.{Name}
 use Rattle.o2_words.specs.declared.name.Name.TheVariants.{Tunefs, Debugfs, Label, Ask}
 use Rattle.o2_words.proofs.Readings.{some_part, first_reads}
 
@@ -45,59 +47,58 @@ ended (word ∷ more) (rest, (next, follows, leads), may) = absurd (omega (arith
 pub empty_line : Matches [] []
 empty_line = ([], refl, All-nil MayBeLeft)
 
+-- ---- four parts that have to stand: a tool, an option, what it is given, and a device
+abbrev form_of : Name → Name → Kind → Form
+form_of tool option given = One (Fixed tool) ∷ One (Fixed option) ∷ One given ∷ One Device ∷ []
+
+-- a line of such a form
+record Worded (tool option : Name) (given : Kind) (words : Words) : Type 0 where
+  word : List ℕ
+  device : List ℕ
+  is : words ≡ text_of tool ∷ text_of option ∷ word ∷ device ∷ []
+  fits : Fits given word
+  names : IsDevice device
+
+worded : (tool option : Name) (given : Kind) (words : Words) → Matches (form_of tool option given) words → Worded tool option given words
+worded tool option given words line =
+    let first = parted (Fixed tool) (One (Fixed option) ∷ One given ∷ One Device ∷ []) words line in
+    let second = parted (Fixed option) (One given ∷ One Device ∷ []) first.more first.behind in
+    let third = parted given (One Device ∷ []) second.more second.behind in
+    let last = parted Device [] third.more third.behind in
+    record {
+      word = third.word;
+      device = last.word;
+      is = first.is ∙ ap (λ (w : List ℕ). w ∷ first.more) first.fits ∙ ap (λ (ws : Words). text_of tool ∷ ws)
+          (second.is ∙ ap (λ (w : List ℕ). w ∷ second.more) second.fits ∙ ap (λ (ws : Words). text_of option ∷ ws)
+          (third.is ∙ ap (λ (ws : Words). third.word ∷ ws) (last.is ∙ ap (λ (ws : Words). last.word ∷ ws) (ended last.more last.behind))));
+      fits = third.fits;
+      names = last.fits;
+    }
+
+line_worded : (tool option : Name) (given : Kind) (words : Words) → Worded tool option given words → Matches (form_of tool option given) words
+line_worded tool option given words line =
+    subst (Matches (form_of tool option given)) (sym line.is)
+    (joined (Fixed tool) (One (Fixed option) ∷ One given ∷ One Device ∷ []) (text_of tool) (text_of option ∷ line.word ∷ line.device ∷ []) refl
+    (joined (Fixed option) (One given ∷ One Device ∷ []) (text_of option) (line.word ∷ line.device ∷ []) refl
+    (joined given (One Device ∷ []) line.word (line.device ∷ []) line.fits
+    (joined Device [] line.device [] line.names empty_line))))
+
 -- ---- the two forms
 label_line : (words : Words) → Matches LABEL_FORM words → IsTunefs words
 label_line words line =
-    let tool = parted (Fixed Tunefs) (One (Fixed Label) ∷ One Text ∷ One Device ∷ []) words line in
-    let option = parted (Fixed Label) (One Text ∷ One Device ∷ []) tool.more tool.behind in
-    let label = parted Text (One Device ∷ []) option.more option.behind in
-    let device = parted Device [] label.more label.behind in (
-      label.word,
-      (
-        device.word,
-        record {
-          form = tool.is ∙ ap (λ (w : List ℕ). w ∷ tool.more) tool.fits ∙ ap (λ (ws : Words). codes "tunefs" ∷ ws)
-              (option.is ∙ ap (λ (w : List ℕ). w ∷ option.more) option.fits ∙ ap (λ (ws : Words). codes "-L" ∷ ws)
-              (label.is ∙ ap (λ (ws : Words). label.word ∷ ws) (device.is ∙ ap (λ (ws : Words). device.word ∷ ws) (ended device.more device.behind))));
-          names = device.fits;
-        },
-      ),
-    )
+    let found = worded Tunefs Label Text words line in
+    (found.word, (found.device, record { form = found.is; names = found.names }))
 
 line_label : (words : Words) → IsTunefs words → Matches LABEL_FORM words
-line_label words (label, (device, line)) =
-    subst (Matches LABEL_FORM) (sym line.form)
-    (joined (Fixed Tunefs) (One (Fixed Label) ∷ One Text ∷ One Device ∷ []) (codes "tunefs") (codes "-L" ∷ label ∷ device ∷ []) refl
-    (joined (Fixed Label) (One Text ∷ One Device ∷ []) (codes "-L") (label ∷ device ∷ []) refl
-    (joined Text (One Device ∷ []) label (device ∷ []) tt
-    (joined Device [] device [] line.names empty_line))))
+line_label words (label, (device, line)) = line_worded Tunefs Label Text words (record { word = label; device = device; is = line.form; fits = tt; names = line.names })
 
 debug_line : (words : Words) → Matches DEBUG_FORM words → IsDebugfs words
 debug_line words line =
-    let tool = parted (Fixed Debugfs) (One (Fixed Ask) ∷ One Query ∷ One Device ∷ []) words line in
-    let option = parted (Fixed Ask) (One Query ∷ One Device ∷ []) tool.more tool.behind in
-    let asking = parted Query (One Device ∷ []) option.more option.behind in
-    let device = parted Device [] asking.more asking.behind in (
-      asking.word,
-      (
-        device.word,
-        record {
-          form = tool.is ∙ ap (λ (w : List ℕ). w ∷ tool.more) tool.fits ∙ ap (λ (ws : Words). codes "debugfs" ∷ ws)
-              (option.is ∙ ap (λ (w : List ℕ). w ∷ option.more) option.fits ∙ ap (λ (ws : Words). codes "-R" ∷ ws)
-              (asking.is ∙ ap (λ (ws : Words). asking.word ∷ ws) (device.is ∙ ap (λ (ws : Words). device.word ∷ ws) (ended device.more device.behind))));
-          asks = asking.fits;
-          names = device.fits;
-        },
-      ),
-    )
+    let found = worded Debugfs Ask Query words line in
+    (found.word, (found.device, record { form = found.is; asks = found.fits; names = found.names }))
 
 line_debug : (words : Words) → IsDebugfs words → Matches DEBUG_FORM words
-line_debug words (word, (device, line)) =
-    subst (Matches DEBUG_FORM) (sym line.form)
-    (joined (Fixed Debugfs) (One (Fixed Ask) ∷ One Query ∷ One Device ∷ []) (codes "debugfs") (codes "-R" ∷ word ∷ device ∷ []) refl
-    (joined (Fixed Ask) (One Query ∷ One Device ∷ []) (codes "-R") (word ∷ device ∷ []) refl
-    (joined Query (One Device ∷ []) word (device ∷ []) line.asks
-    (joined Device [] device [] line.names empty_line))))
+line_debug words (word, (device, line)) = line_worded Debugfs Ask Query words (record { word = word; device = device; is = line.form; fits = line.asks; names = line.names })
 
 -- ---- all the forms
 lines_at : (words : Words) (k : ℕ) (form : Form) → k < 2 → get_or forms k form ≡ form → Matches form words → IsTunefs words ⊎ IsDebugfs words
