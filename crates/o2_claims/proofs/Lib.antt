@@ -1,0 +1,4 @@
+pub mod FirstOwners
+pub mod Gaps
+pub mod Keys
+pub mod Numbers

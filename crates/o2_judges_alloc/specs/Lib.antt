@@ -1,0 +1,4 @@
+pub mod AllocatorRows
+pub mod ChainSums
+pub mod ClusterRows
+pub mod GroupRows

@@ -1,0 +1,26 @@
+//! Judges of allocators and groups by their tables: each tells where one check fails.
+#![tactic(auto)]
+
+mod bit_use;
+mod block_bits;
+mod chain_numbers;
+mod chain_sums;
+mod cluster_bits;
+mod free_bits;
+mod inode_bits;
+mod missing;
+mod places;
+mod sums;
+mod totals;
+
+pub use block_bits::block_alloc_bit;
+pub use chain_numbers::group_chain;
+pub use chain_sums::chain_bits;
+pub use cluster_bits::cluster_alloc_bit;
+pub use free_bits::group_free_bits;
+pub use inode_bits::inode_alloc_bit;
+pub use missing::group_missing;
+pub use totals::alloc_totals;
+
+#[cfg(test)]
+mod tests;

@@ -1,0 +1,5 @@
+pub mod NameMaps
+pub mod FirstNames
+pub mod Rows
+pub mod SlotLists
+pub mod DirtyJournals

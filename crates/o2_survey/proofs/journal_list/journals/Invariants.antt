@@ -1,0 +1,12 @@
+-- The journals so far are those of the first slots.
+use Rattle.std.proofs.Common.{◌≡◌, [], ◌∷◌}
+use Rattle.std.specs.Prelude.{flat_map}
+use Rattle.std.specs.Option.{option_map_or}
+use Rattle.std.specs.List.{range_with_len}
+use Rattle.o2_model.specs.Volume.{Volume}
+use Rattle.o2_model.specs.Journals.{named_journal}
+use Rattle.o2_survey.specs.SystemNames.{AreSystemNames}
+use Rattle.o2_survey.proofs.journal_list.journals.Given as goal
+
+abbrev pub invariant-loop-slot : goal.invariant-loop-slot
+invariant-loop-slot l = (v : Volume) → AreSystemNames v l.names → l.found.items ≡ flat_map (λ slot. option_map_or (λ b. b ∷ []) (named_journal v slot) []) (range_with_len 0 l.slot)

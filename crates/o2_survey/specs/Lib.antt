@@ -1,0 +1,2 @@
+pub mod SystemNames
+pub mod AllocatorRows

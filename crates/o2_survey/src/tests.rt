@@ -1,0 +1,116 @@
+// Each call once, on a disk in memory: a system directory with names in an order of their own, one of them twice.
+ghost use Rattle.std.specs.Prelude.{◌≤◌};
+
+use crate::testing::{
+    FIRST_CHAIN, SECOND_CHAIN, allocator, bitmap, dinode, extent_alloc, numbers, system_names,
+};
+use crate::{SystemNames, allocators, dirty_journals, journals};
+use o2_disk::{Disk, How, MemDisk};
+use o2_model::{Allocator, BitUse, SlotFile, SystemFile};
+use o2_ondisk::ChainRec;
+use o2_tables::{AllocatorRow, AllocatorTable};
+use o2_view::{View, ViewFault};
+use std::alloc::Global;
+use std::test::Fail;
+
+#[test]
+fn tells_the_first_of_each_name(rt: HostRuntime) -> Result<(), Fail> {
+    let names = system_names(rt.alloc())?;
+    let inode_alloc = SystemFile::OfSlot(SlotFile::InodeAlloc, 1);
+    let orphan_dir = SystemFile::OfSlot(SlotFile::OrphanDir, 1);
+    assert_eq!(rt; names.inode_of(SystemFile::GlobalBitmap), Some(40));
+    assert_eq!(rt; names.inode_of(SystemFile::SlotMap), Some(46));
+    assert_eq!(rt; names.inode_of(inode_alloc), Some(45));
+    assert_eq!(rt; names.inode_of(orphan_dir), None);
+    Ok(())
+}
+
+#[test]
+fn tells_journals_by_slots(rt: HostRuntime) -> Result<(), Fail> {
+    let alloc = rt.alloc();
+    let names = system_names(alloc)?;
+    let found = journals(alloc, &numbers(), &names)?;
+    assert_eq!(rt; found.len(), 2);
+    assert_eq!(rt; found[0], 50);
+    assert_eq!(rt; found[1], 51);
+    Ok(())
+}
+
+// The allocators of a disk of the volume.
+fn table_of<D: Disk>(alloc: Global, disk: &mut D) -> Result<AllocatorTable, ViewFault>
+    requires { 28992 ≤ (D.state disk.old).sectors }
+{
+    let mut view = View::<D, 1>::new(alloc, disk, 9, 28992)?;
+    let names = system_names(alloc)?;
+    allocators(alloc, &mut view, &numbers(), &names)
+}
+
+// Whether the row tells this.
+fn is_row(
+    row: &AllocatorRow,
+    allocator: Allocator,
+    used: u32,
+    total: u32,
+    chains: &[ChainRec],
+) -> bool {
+    row.allocator == allocator
+        && row.used == used
+        && row.total == total
+        && row.chains.as_slice() == chains
+}
+
+fn named(bit_use: BitUse, slot: u16, block: u64) -> Allocator {
+    Allocator {
+        bit_use,
+        slot,
+        block,
+    }
+}
+
+// The dinode of inode_alloc of slot 1 has no flag of chains.
+#[test]
+fn tells_allocators_in_their_order(rt: HostRuntime) -> Result<(), Fail> {
+    let alloc = rt.alloc();
+    let mut disk = MemDisk::new(alloc, 28992)?;
+    disk.attach(alloc, "disk", How::ReadWrite)?;
+    disk.write(40, &bitmap())?;
+    disk.write(41, &allocator(41, 8, 3625))?;
+    disk.write(42, &allocator(42, 3, 1024))?;
+    disk.write(43, &extent_alloc())?;
+    disk.write(44, &allocator(44, 0, 256))?;
+    disk.write(45, &dinode(45, 0x1, 5, 256))?;
+    let table = table_of(alloc, &mut disk)?;
+    let rows = table.as_slice();
+    let bitmap = named(BitUse::Clusters, 65535, 40);
+    let inode_alloc = named(BitUse::Inodes, 65535, 42);
+    let extents_of_slot = named(BitUse::Metadata, 0, 43);
+    let inodes_of_slot = named(BitUse::Inodes, 0, 44);
+    assert_eq!(rt; rows.len(), 4);
+    assert!(rt; is_row(&rows[0], bitmap, 7, 3624, &[FIRST_CHAIN, SECOND_CHAIN]));
+    assert!(rt; is_row(&rows[1], inode_alloc, 3, 1024, &[]));
+    assert!(rt; is_row(&rows[2], extents_of_slot, 1, 512, &[FIRST_CHAIN]));
+    assert!(rt; is_row(&rows[3], inodes_of_slot, 0, 256, &[]));
+    Ok(())
+}
+
+// The dirty ones of these inodes on a disk of the volume.
+fn dirty_of<D: Disk>(alloc: Global, disk: &mut D, inodes: &[u64]) -> Result<Vec<u64>, ViewFault>
+    requires { 28992 ≤ (D.state disk.old).sectors }
+{
+    let mut view = View::<D, 1>::new(alloc, disk, 9, 28992)?;
+    dirty_journals(alloc, &mut view, &numbers(), inodes)
+}
+
+// The lowest bit of what a bitmap has as its set bits is a journal's flag that it is dirty.
+#[test]
+fn tells_dirty_journals(rt: HostRuntime) -> Result<(), Fail> {
+    let alloc = rt.alloc();
+    let mut disk = MemDisk::new(alloc, 28992)?;
+    disk.attach(alloc, "disk", How::ReadWrite)?;
+    disk.write(50, &dinode(50, 0x101, 2, 0))?;
+    disk.write(51, &dinode(51, 0x101, 1, 0))?;
+    let found = dirty_of(alloc, &mut disk, &[50, 51, 28992])?;
+    assert_eq!(rt; found.len(), 1);
+    assert_eq!(rt; found[0], 51);
+    Ok(())
+}

@@ -1,0 +1,3 @@
+pub mod Agains
+pub mod Finds
+pub mod Sames
