@@ -6,11 +6,13 @@ use Rattle.o2_ondisk.specs.DxRoots.{dx_root_list_place}
 use Rattle.o2_model.specs.Orders.{is_none_of}
 use Rattle.o2_model.specs.declared.leaf.Leaf.{Leaf}
 use Rattle.o2_model.specs.Volume.{Volume, block_size}
-use Rattle.o2_model.specs.Extents.{read_list}
+use Rattle.o2_model.specs.Extents.{nothing_read, read_list}
 use Rattle.o2_model.specs.Extents.LeafRule.{ToClusters, ToBlocks}
 use Rattle.o2_model.specs.Indexes.{dx_root, index_root, is_index_root, is_inline_index, is_sound_dx_list, index_extents}
 use Rattle.o2_model.specs.RefcountTrees.{is_refcount_block, has_leaf_blocks, most_in_refcount_block, leaf_list}
 use Rattle.o2_model.specs.Checks.RefTree.{is_sound_root_block}
+use Rattle.o2_extent.specs.declared.list_block.ListBlock.{ListBlock}
+use Rattle.o2_extent.specs.Readings.{AreListBlocks}
 use Rattle.o2_extent.specs.Owners.{is_some_index_root, index_list, is_sound_index_root, where_sound}
 
 first_holds : (a b : Bool) → (a && b) ≡ true → a ≡ true
@@ -58,6 +60,21 @@ unfolding leaf_list
 no_leaf_blocks v b none = rw none refl
 
 -- with no list the root itself is judged
+pub no_list : (v : Volume) (b : ℕ) → has_leaf_blocks v b ≡ false → leaf_list v b ≡ nothing_read
+unfolding leaf_list
+no_list v b none = rw none refl
+
+pub a_list : (v : Volume) (b : ℕ) → has_leaf_blocks v b ≡ true → leaf_list v b ≡ read_list v ToBlocks b 0x80 (most_in_refcount_block v)
+unfolding leaf_list
+a_list v b has = rw has refl
+
+-- rows of its extent blocks
+pub no_rows : (v : Volume) (b : ℕ) (rows : List ListBlock) → has_leaf_blocks v b ≡ false → rows ≡ [] → AreListBlocks v (leaf_list v b).blocks rows
+no_rows v b rows none empty = rw (empty, no_list v b none) (record { listed = refl; each = tt })
+
+pub rows_of_list : (v : Volume) (b : ℕ) (rows : List ListBlock) → has_leaf_blocks v b ≡ true → AreListBlocks v (read_list v ToBlocks b 0x80 (most_in_refcount_block v)).blocks rows → AreListBlocks v (leaf_list v b).blocks rows
+rows_of_list v b rows has are = rw (a_list v b has) are
+
 pub sound_block : (v : Volume) (b : ℕ) → has_leaf_blocks v b ≡ false → is_refcount_block v b ≡ is_sound_root_block v b
 unfolding leaf_list
 sound_block v b none = elim (cases_Bool (is_refcount_block v b)) [

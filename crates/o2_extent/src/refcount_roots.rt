@@ -8,13 +8,15 @@ ghost use Rattle.o2_view.specs.Counted.{CallsBut};
 ghost use Rattle.o2_view.specs.Geos.{HasSizes, LiesIn};
 ghost use Rattle.o2_view.specs.OwnChecks.{BlockFails};
 ghost use Rattle.o2_view.specs.Views.{view_state, view_blocks, ShowsBytes, OnlyReads};
+ghost use Rattle.o2_extent.specs.Readings.{AreListBlocks};
 
 use crate::Leaves;
 use crate::block_list::read_block_list;
 use crate::geometry::is_block_in_range;
+use crate::list_block::ListBlock;
 use crate::rule::LeafRule;
 use o2_disk::Disk;
-use o2_model::Geo;
+use o2_model::{Geo, Items};
 use o2_ondisk::{RefcountBlock, Signature, read_refcount_block};
 use o2_view::{View, ViewFault};
 use std::alloc::Global;
@@ -30,6 +32,8 @@ pub struct RefcountRoot {
     /// The leaf blocks that its list names, up to where that is at fault, each in the record that names it. None where it has no
     /// such list.
     pub leaves: Leaves,
+    /// The extent blocks of this list, in order.
+    pub extent_blocks: Items<ListBlock>,
 }
 
 /// Whether block b is a refcount block of the volume, which has these fields.
@@ -65,6 +69,7 @@ pub fn refcount_root<D: Disk, const N: usize>(
     requires size { length bytes.now ≡ 2 ^ geo.now.block_bits }
     ensures sound { IfOk result (λ root. (v : Volume) → ShowsBytes view.old geo.now b bytes.now v → root.is_sound ≡ is_sound_root_block v b) }
     ensures leaves { IfOk result (λ root. (v : Volume) → ShowsBytes view.old geo.now b bytes.now v → root.leaves ≡ (leaf_list v b).leaves) }
+    ensures blocks { IfOk result (λ root. (v : Volume) → ShowsBytes view.old geo.now b bytes.now v → AreListBlocks v (leaf_list v b).blocks root.extent_blocks) }
     // The disk is called for the extent blocks alone.
     ensures count { CallsBut 1 (view_blocks view.old) (view_state view.old) (view_state view.new) }
     ensures reads { OnlyReads view.old view.new }
@@ -75,11 +80,13 @@ pub fn refcount_root<D: Disk, const N: usize>(
         return Ok(RefcountRoot {
             is_sound: is_refcount_block_at(geo, b, &block),
             leaves: Leaves::from(Vec::new(alloc)),
+            extent_blocks: Items::from(Vec::new(alloc)),
         });
     }
     let reading = read_block_list(alloc, view, geo, LeafRule::ToBlocks, b, 0x80, bytes)?;
     Ok(RefcountRoot {
         is_sound: reading.faults.is_empty(),
         leaves: Leaves::from(reading.leaves),
+        extent_blocks: Items::from(reading.blocks),
     })
 }

@@ -9,7 +9,7 @@ use Rattle.o2_model.specs.Clusters.{cluster_of}
 use Rattle.o2_model.specs.ClusterGroups.{group_size, group_index}
 use Rattle.o2_model.specs.LeafRecords.{is_refcounted}
 use Rattle.o2_model.specs.Inodes.{kind, records_of, extent_blocks_of}
-use Rattle.o2_model.specs.Allocators.{allocators, chains, used_of, total_of}
+use Rattle.o2_model.specs.Allocators.{allocators, chains, is_sound_chain_header, used_of, total_of}
 use Rattle.o2_model.specs.Groups.{groups, group_desc, is_bit_set, is_bit_set_in, is_of_clusters, inodes_of}
 use Rattle.o2_model.specs.Files.{links_of}
 use Rattle.o2_model.specs.Metadata.{inode_origin, extent_block_origin, refcount_block_origin}
@@ -32,6 +32,7 @@ use Rattle.o2_tables.specs.declared.tree.TreeTable.{TreeTable}
 pub record IsAllocatorRow (v : Volume) (row : AllocatorRow) : Type 0 where
   pub used : row.used ≡ used_of (dinode v row.allocator.block).role_data
   pub total : row.total ≡ total_of (dinode v row.allocator.block).role_data
+  pub header : row.has_sound_header ≡ is_sound_chain_header v row.allocator
   pub chains : row.chains ≡ chains v row.allocator
 
 -- The rows are those of the allocators, in their order.

@@ -10,7 +10,9 @@ pub struct AllocatorRow {
     pub used: u32,
     /// `i_total`: how many bits it has.
     pub total: u32,
-    /// The records of its chains, none where the head of their list is not well formed.
+    /// Whether the header of its chain list is well formed.
+    pub has_sound_header: bool,
+    /// The records of its chains, none where that header is not well formed.
     pub chains: Items<ChainRec>,
 }
 

@@ -1,5 +1,5 @@
 -- The dinode is read, and then its list.
-use Rattle.std.proofs.Common.{◌≡◌, ◌∙◌}
+use Rattle.std.proofs.Common.{◌∙◌}
 use Rattle.o2_view.proofs.Shown.{still_shows}
 use Rattle.o2_extent.proofs.Views.{only_both}
 use Rattle.o2_extent.proofs.inode.read_inode.Goals as goal
