@@ -1,5 +1,5 @@
 -- What the walk over all chains of an allocator has kept.
-use Rattle.std.proofs.Common.{◌≡◌, true, false, List, [], refl, sym, ◌∙◌, subst}
+use Rattle.std.proofs.Common.{◌≡◌, true, List, [], refl, ◌∙◌, ap, subst}
 use Rattle.o2_ondisk.specs.declared.chain_rec.ChainRec.{ChainRec}
 use Rattle.o2_model.specs.declared.allocator.Allocator.{Allocator}
 use Rattle.o2_model.specs.Faults.{fails_unless}
@@ -18,16 +18,17 @@ unfolding allocator_walk chain_heads
 keeps_all v a before given records walked same are h =
     subst (λ rs. Keeps v a before walked (walk_chains v a 0 (heads_of rs) (record { groups = walked_before v before; faults = [] }))) (same ∙ are) h
 
--- where the header is not sound there are no chains, and nothing is met
-no_heads : (v : Volume) (a : Allocator) → is_sound_chain_header v a ≡ false → chain_heads v a ≡ []
-unfolding chain_heads chains
-no_heads v a bad = rw bad refl
-
-pub keeps_none : (v : Volume) (a : Allocator) (before : List Run) (walked : Walked) → is_sound_chain_header v a ≡ false → Keeps v a before walked (record { groups = walked_before v before; faults = [] })
-    → Keeps v a before walked (allocator_walk v a before)
+-- the same, from the heads of the chains
+pub keeps_from : (v : Volume) (a : Allocator) (before : List Run) (given : List ChainRec) (walked : Walked) → heads_of given ≡ chain_heads v a
+    → Keeps v a before walked (walk_chains v a 0 (heads_of given) (record { groups = walked_before v before; faults = [] })) → Keeps v a before walked (allocator_walk v a before)
 unfolding allocator_walk
-keeps_none v a before walked bad h =
-    subst (λ heads. Keeps v a before walked (walk_chains v a 0 heads (record { groups = walked_before v before; faults = [] }))) (sym (no_heads v a bad)) h
+keeps_from v a before given walked heads h =
+    subst (λ hs. Keeps v a before walked (walk_chains v a 0 hs (record { groups = walked_before v before; faults = [] }))) heads h
+
+-- the heads of the chains in a row
+pub heads_in : (v : Volume) (a : Allocator) (given records : List ChainRec) → given ≡ records → records ≡ chains v a → heads_of given ≡ chain_heads v a
+unfolding chain_heads
+heads_in v a given records same are = ap heads_of (same ∙ are)
 
 -- a sound header is no fault
 pub sound_header : (v : Volume) (a : Allocator) → is_sound_chain_header v a ≡ true → fails_unless a.block (is_sound_chain_header v a) ≡ []

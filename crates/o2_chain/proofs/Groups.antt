@@ -103,7 +103,7 @@ back_out : (a : Allocator) (gs : List Group) → map group_out (map (group_in a)
 back_out a [] = refl
 back_out a (g ∷ gs) = ap (λ rest. g ∷ rest) (back_out a gs)
 
-each_of : {A : Type 0} (P : A → Type 0) (xs : List A) (x : A) → AllByRecursion P xs → Contains xs x → P x
+pub each_of : {A : Type 0} (P : A → Type 0) (xs : List A) (x : A) → AllByRecursion P xs → Contains xs x → P x
 each_of P [] x all is = absurd (omega (arith, is.1))
 each_of P (y ∷ ys) x all (zero, low, same) = subst P same all.0
 each_of P (y ∷ ys) x all (suc i, low, same) = each_of P ys x all.1 (i, omega (arith, low), same)

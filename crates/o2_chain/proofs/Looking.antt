@@ -54,3 +54,10 @@ module _ {D : Type 0} {N : ℕ} {g : disk.Ghosts D} where
   calls_few {old} {mid} {new} geo none all lies reads one nothing looks h I told =
       let start : length (looked_at none) ≡ 0 = ap (λ (runs : List (ℕ × ℕ)). length (map (λ (run : ℕ × ℕ). run.0) runs)) nothing in
       omega (arith, one I told, looks.calls I (reads.reads.content ∙ told), start, room_left (blocks_of geo) (looked_at all) h.apart, lies.within)
+
+  -- as many are read as are looked at
+  pub calls_looked : {old new : View D N g} (geo : Geo) (none all : Walked) → LiesIn geo old → none.seen ≡ [] → LooksAtMost (looked_at none) (looked_at all) old new → HasLooked (blocks_of geo) all
+      → CallsAtMost (view_blocks old) (view_state old) (view_state new)
+  calls_looked {old} {new} geo none all lies nothing looks h I told =
+      let start : length (looked_at none) ≡ 0 = ap (λ (runs : List (ℕ × ℕ)). length (map (λ (run : ℕ × ℕ). run.0) runs)) nothing in
+      omega (arith, looks.calls I told, start, room_left (blocks_of geo) (looked_at all) h.apart, lies.within)

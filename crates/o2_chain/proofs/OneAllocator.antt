@@ -30,7 +30,7 @@ same_size v Clusters block h = refl
 same_size v Inodes block h = refl
 same_size v Metadata block h = refl
 
-same_heads : (v : Volume) (a : Allocator) → chain_heads v a ≡ chain_heads v (judged a)
+pub same_heads : (v : Volume) (a : Allocator) → chain_heads v a ≡ chain_heads v (judged a)
 unfolding chain_heads chains is_sound_chain_header
 same_heads v a = rw (same_size v a.bit_use a.block (chain_list_header v a.block)) refl
 

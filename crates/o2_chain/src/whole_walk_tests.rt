@@ -1,28 +1,33 @@
-// A walk over two allocators, of which the second has a bad link. It reads a file: what a file holds is told to no contract,
-// so nothing is owed of the volume's own allocators.
+// A walk over three allocators: the second has no sound header, and the third a bad link. It reads a file, and what a file holds
+// is told to no contract.
 ghost use Rattle.std.specs.Prelude.{◌≡◌, ◌≤◌};
 ghost use Rattle.o2_disk.specs.FileState.{file_state};
 ghost use Rattle.o2_view.specs.Geos.{HasSizes, HasNumbers, blocks_of};
 
 use crate::{VolumeWalk, walk_all};
 use o2_disk::{Disk, FileDisk, How};
-use o2_model::{Allocator, BitUse, Geo, Group};
-use o2_ondisk::{
-    ChainListHeader, ChainRec, DxSeed, GroupDesc, Signature, write_chain_list_header,
-    write_chain_rec, write_group_desc,
-};
+use o2_model::{Allocator, BitUse, Geo, Group, Items};
+use o2_ondisk::{ChainRec, DxSeed, GroupDesc, Signature, write_group_desc};
+use o2_tables::AllocatorRow;
 use o2_view::{View, ViewFault};
-use std::alloc::Global;
+use std::alloc::{AllocError, Global};
 use std::fs;
 use std::test::Fail;
 
-const NAME: &str = "two_allocators.img";
+const NAME: &str = "three_allocators.img";
 
 // The global bitmap, whose dinode is in block 40.
 const BITMAP: Allocator = Allocator {
     bit_use: BitUse::Clusters,
     slot: 0xffff,
     block: 40,
+};
+
+// An allocator of extent blocks, whose dinode is in block 42.
+const EXTENTS: Allocator = Allocator {
+    bit_use: BitUse::Metadata,
+    slot: 0,
+    block: 42,
 };
 
 // An allocator of inodes, whose dinode is in block 41.
@@ -84,27 +89,32 @@ fn chain_to(blkno: u64) -> ChainRec {
     }
 }
 
-// A dinode with so many chains, of groups of so many clusters.
-fn dinode_block(cpg: u16, bpc: u16, chains: u16, first: u64, second: u64) -> [u8; 512] {
-    let header = ChainListHeader {
-        cpg,
-        bpc,
-        count: 19,
-        next_free_rec: chains,
-    };
-    let mut block = [0; 512];
-    write_chain_list_header(&mut block[0xc0..], &header);
-    write_chain_rec(&mut block[0xd0..], &chain_to(first));
-    write_chain_rec(&mut block[0xe0..], &chain_to(second));
-    block
+// The row of an allocator with these chains.
+fn row(
+    alloc: Global,
+    allocator: Allocator,
+    has_sound_header: bool,
+    chains: &[ChainRec],
+) -> Result<AllocatorRow, AllocError> {
+    Ok(AllocatorRow {
+        allocator,
+        used: 0,
+        total: 0,
+        has_sound_header,
+        chains: Items::from(Vec::from_slice(alloc, chains)?),
+    })
 }
 
-// The walk over both, on a file that is attached.
-fn walk_file(alloc: Global, disk: &mut FileDisk) -> Result<VolumeWalk, ViewFault>
+// The walk over these allocators, on a file that is attached.
+fn walk_file(
+    alloc: Global,
+    disk: &mut FileDisk,
+    rows: &[AllocatorRow],
+) -> Result<VolumeWalk, ViewFault>
     requires { 128 ≤ (file_state disk.old).sectors }
 {
     let mut view = View::<FileDisk, 1>::new(alloc, disk, 9, 128)?;
-    walk_all(alloc, &mut view, &numbers(), &[BITMAP, INODES])
+    walk_all(alloc, &mut view, &numbers(), rows)
 }
 
 fn group(of: Allocator, chain: u16, block: u64, bits: u16) -> Group {
@@ -123,13 +133,16 @@ fn goes_on_behind_a_bad_link(rt: HostRuntime) -> Result<(), Fail> {
     let mut disk = FileDisk::new(rt, alloc);
     let sectors = disk.attach(alloc, NAME, How::ReadWrite)?;
     assert!(rt; sectors >= 128);
-    disk.write(40, &dinode_block(3584, 1, 1, 8, 0))?;
     disk.write(8, &group_block(&BITMAP, 0, 16, 8, 0))?;
     // The second link of chain 0 leads to the bitmap's group.
-    disk.write(41, &dinode_block(1, 8, 2, 64, 72))?;
     disk.write(64, &group_block(&INODES, 0, 8, 64, 8))?;
     disk.write(72, &group_block(&INODES, 1, 8, 72, 0))?;
-    let walk = walk_file(alloc, &mut disk)?;
+    let rows = [
+        row(alloc, BITMAP, true, &[chain_to(8)])?,
+        row(alloc, EXTENTS, false, &[])?,
+        row(alloc, INODES, true, &[chain_to(64), chain_to(72)])?,
+    ];
+    let walk = walk_file(alloc, &mut disk, &rows)?;
     fs::remove_file(&rt, NAME)?;
     let groups = walk.groups.as_slice();
     assert_eq!(rt; groups.len(), 3);
