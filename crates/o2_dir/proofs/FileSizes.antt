@@ -15,8 +15,9 @@ use Rattle.o2_model.specs.Inodes.{kind, is_inline, is_directory, is_directory_ki
 use Rattle.o2_model.specs.Directories.{own_inodes}
 use Rattle.o2_model.specs.Contents.{maps_cluster}
 use Rattle.o2_model.specs.Checks.InodeSize.{is_link_size, is_file_size, is_size_of_kind, has_sound_size}
+use Rattle.o2_model.specs.declared.geo.Geo.{Geo}
 use Rattle.o2_model.specs.declared.leaf.Leaf.{Leaf}
-use Rattle.o2_dir.specs.Fails.{IsRead}
+use Rattle.o2_dir.specs.Fails.{HoldsLeaves}
 
 -- ---- by the kind
 of_link : (v : Volume) (b : ℕ) (k : Option Kind) → is_link_kind k ≡ true → is_size_of_kind v b k ≡ is_link_size v b
@@ -65,7 +66,7 @@ link_size_is n block d e leaves records same long are =
     ∙ (ap (λ k. nat_lt 0 e.size && cond (has_fast_text e) (nat_lt e.size (k - 192)) (list_any (maps_cluster 0) leaves)) long
     ∙ ap (λ (ls : List Leaf). nat_lt 0 e.size && cond (has_fast_text e) (nat_lt e.size (block - 192)) (list_any (maps_cluster 0) ls)) are)
 
-pub link_size : (v : Volume) (b : ℕ) (d : Dinode) (bytes : List ℕ) (leaves : List Leaf) → IsRead v b bytes leaves → length bytes ≡ block_size v → d ≡ dinode_of bytes → is_inline v b ≡ false → is_link_kind (kind v b) ≡ true
+pub link_size : (v : Volume) (b : ℕ) (d : Dinode) (bytes : List ℕ) (leaves : List Leaf) → HoldsLeaves v b bytes leaves → length bytes ≡ block_size v → d ≡ dinode_of bytes → is_inline v b ≡ false → is_link_kind (kind v b) ≡ true
     → (nat_lt 0 d.size && cond (has_fast_text d) (nat_lt d.size (length bytes - 192)) (list_any (maps_cluster 0) leaves)) ≡ has_sound_size v b
 unfolding has_sound_size
 link_size v b d bytes leaves read long tells outside link = rw outside
@@ -78,6 +79,13 @@ unfolding has_sound_size
 file_size v b size tells outside file = rw outside
     (ap (λ k. nat_le k (cluster_size v * 2 ^ 32) || among (own_inodes v) b) tells
     ∙ sym (of_file v b (kind v b) file))
+
+-- what is told of a file's size, where its dinode and the numbers are known
+pub may_have_told : (v : Volume) (geo : Geo) (b size : ℕ) (may : Bool) → v.geo ≡ geo → size ≡ (dinode v b).size → may ≡ (nat_le size (2 ^ geo.cluster_bits * 2 ^ 32) || among (own_inodes v) b) → may ≡ is_file_size v b
+may_have_told v geo b size may same tells is =
+    is
+    ∙ (ap (λ (x : Geo). nat_le size (2 ^ x.cluster_bits * 2 ^ 32) || among (own_inodes v) b) (sym same)
+    ∙ ap (λ k. nat_le k (cluster_size v * 2 ^ 32) || among (own_inodes v) b) tells)
 
 pub other_size : (v : Volume) (b : ℕ) → is_inline v b ≡ false → is_link_kind (kind v b) ≡ false → is_directory_kind (kind v b) ≡ false → is_file_kind (kind v b) ≡ false → true ≡ has_sound_size v b
 unfolding has_sound_size

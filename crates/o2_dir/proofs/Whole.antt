@@ -19,7 +19,7 @@ use Rattle.o2_model.specs.declared.leaf.Leaf.{Leaf}
 use Rattle.o2_dir.specs.declared.places.Place.{Place}
 use Rattle.o2_dir.specs.Blocks.{place_in, places_in, places_of, block_at_place, Keeps}
 use Rattle.o2_view.specs.OwnChecks.{FailsFirst}
-use Rattle.o2_dir.specs.Fails.{IsMapped, directory_checks}
+use Rattle.o2_dir.specs.Fails.{IsMapped, MapsBlocks, directory_checks}
 use Rattle.o2_dir.specs.declared.reading.Reading.{Reading}
 use Rattle.o2_model.specs.declared.check.Check.{Check}
 use Rattle.o2_model.specs.declared.check.Check.TheVariants.{InodeSize, DirBlock as DirBlockFails}
@@ -39,12 +39,16 @@ mapped_all v limit (leaf ∷ leaves) = elim (cases_Bool (is_written leaf)) [
       ∙ sym (map-append (block_at_place v) (places_in (per_cluster v) limit leaf) (places_of (per_cluster v) limit leaves))))
 ]
 
-pub blocks_are : (v : Volume) (d size : ℕ) (leaves : List Leaf) → IsMapped v d size leaves → dir_blocks v d ≡ map (block_at_place v) (places_of (per_cluster v) (size / block_size v) leaves)
+pub blocks_are : (v : Volume) (d size : ℕ) (leaves : List Leaf) → MapsBlocks v d size leaves → dir_blocks v d ≡ map (block_at_place v) (places_of (per_cluster v) (size / block_size v) leaves)
 unfolding dir_blocks
 blocks_are v d size leaves h =
     rw h.outside (mapped_all v ((dinode v d).size / block_size v) (leaf_records v d))
     ∙ (ap (λ n. map (block_at_place v) (places_of (per_cluster v) (n / block_size v) (leaf_records v d))) (sym h.tells)
     ∙ ap (λ (ls : List Leaf). map (block_at_place v) (places_of (per_cluster v) (size / block_size v) ls)) (sym h.are))
+
+-- what is known of a directory that is well formed
+pub maps : (v : Volume) (d size : ℕ) (leaves : List Leaf) → IsMapped v d size leaves → MapsBlocks v d size leaves
+maps v d size leaves h = record { outside = h.outside; directory = h.directory; tells = h.tells; are = h.are }
 
 -- ---- the size
 of_directory : (v : Volume) (d : ℕ) (k : Option Kind) → is_directory_kind k ≡ true → is_size_of_kind v d k ≡ is_directory_size v d
@@ -57,7 +61,7 @@ of_directory v d (Some Fifo) h = cc
 of_directory v d (Some Socket) h = cc
 of_directory v d (Some Link) h = cc
 
-pub size_is : (v : Volume) (d size : ℕ) (leaves : List Leaf) → IsMapped v d size leaves
+pub size_is : (v : Volume) (d size : ℕ) (leaves : List Leaf) → MapsBlocks v d size leaves
     → has_sound_size v d ≡ (nat_lt 0 size && size % block_size v == 0 && length (places_of (per_cluster v) (size / block_size v) leaves) == size / block_size v)
 unfolding has_sound_size is_directory
 size_is v d size leaves h =
@@ -90,7 +94,7 @@ places_are v geo size leaves same bytes pc all read bytes_are pc_is are read_are
     ∙ (ap (λ n. places_of n (size / bytes) leaves) (cluster_is v geo pc same pc_is)
     ∙ ap (λ n. places_of (per_cluster v) (size / n) leaves) (block_is v geo bytes same bytes_are)))
 
-pub size_told : (v : Volume) (geo : Geo) (d size : ℕ) (leaves : List Leaf) → v.geo ≡ geo → IsMapped v d size leaves → (bytes pc : ℕ) (all tested : List Place) (has : Bool)
+pub size_told : (v : Volume) (geo : Geo) (d size : ℕ) (leaves : List Leaf) → v.geo ≡ geo → MapsBlocks v d size leaves → (bytes pc : ℕ) (all tested : List Place) (has : Bool)
     → bytes ≡ 2 ^ geo.block_bits → pc ≡ 2 ^ (geo.cluster_bits - geo.block_bits) → all ≡ places_of pc (size / bytes) leaves → tested ≡ all
     → has ≡ (nat_lt 0 size && size % bytes == 0 && length tested == size / bytes) → has ≡ has_sound_size v d
 size_told v geo d size leaves same h bytes pc all tested has bytes_are pc_is are tested_are is =
@@ -111,9 +115,9 @@ pub places_told : (v : Volume) (geo : Geo) (d size : ℕ) (leaves : List Leaf) �
     → has ≡ (nat_lt 0 size && size % bytes == 0 && length tested == size / bytes) → Told v d has read
 places_told v geo d size leaves same h bytes pc all tested read has bytes_are pc_is are tested_are read_are is = record {
   sound = h.sound;
-  size = size_told v geo d size leaves same h bytes pc all tested has bytes_are pc_is are tested_are is;
+  size = size_told v geo d size leaves same (maps v d size leaves h) bytes pc all tested has bytes_are pc_is are tested_are is;
   blocks =
-      blocks_are v d size leaves h
+      blocks_are v d size leaves (maps v d size leaves h)
       ∙ sym (ap (map (block_at_place v)) (places_are v geo size leaves same bytes pc all read bytes_are pc_is are read_are));
 }
 

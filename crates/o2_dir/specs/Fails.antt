@@ -59,7 +59,19 @@ pub record IsRead (v : Volume) (d : ℕ) (bytes : List ℕ) (leaves : List Leaf)
   pub sound : extent_faults v d ≡ []
   pub are : leaves ≡ leaf_records v d
 
--- a directory whose blocks the leaf records map
+-- the block of an inode has these bytes, and these are its leaf records, also where its extents are not well formed
+pub record HoldsLeaves (v : Volume) (d : ℕ) (bytes : List ℕ) (leaves : List Leaf) : Type 0 where
+  pub holds : bytes ≡ v.at d
+  pub are : leaves ≡ leaf_records v d
+
+-- a directory whose blocks the leaf records map, also where its extents are not well formed
+pub record MapsBlocks (v : Volume) (d size : ℕ) (leaves : List Leaf) : Type 0 where
+  pub outside : is_inline v d ≡ false
+  pub directory : is_directory v d ≡ true
+  pub tells : size ≡ (dinode v d).size
+  pub are : leaves ≡ leaf_records v d
+
+-- the same where they are well formed
 pub record IsMapped (v : Volume) (d size : ℕ) (leaves : List Leaf) : Type 0 where
   pub outside : is_inline v d ≡ false
   pub directory : is_directory v d ≡ true

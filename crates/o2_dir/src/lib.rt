@@ -35,6 +35,7 @@ pub use data_inode::{has_bytes, is_of_file_or_link, is_valid_dinode};
 pub use directory::{entries, entries_in, entries_of};
 pub use fault::{DirFault, PathFault};
 pub use file_bytes::{part_of_file, read_bytes};
+pub use file_size::{ends_in_numbered, has_size_of_kind};
 pub use index::{IndexEntries, index_entries};
 pub use inode_reading::{InodeReading, sound_inode_in};
 pub use kinds::{is_of_directory, is_of_file};

@@ -8,7 +8,7 @@ ghost use Rattle.o2_model.specs.Directories.{directory_entries};
 ghost use Rattle.o2_model.specs.Checks.InodeSize.{has_sound_size};
 ghost use Rattle.o2_model.specs.Volume.{Volume};
 ghost use Rattle.o2_extent.specs.Readings.{Within};
-ghost use Rattle.o2_dir.specs.Fails.{DirFailsOf, IsMapped, ShowsMapped, directory_checks};
+ghost use Rattle.o2_dir.specs.Fails.{DirFailsOf, MapsBlocks, ShowsMapped, directory_checks};
 
 use crate::blocks::read_places;
 use crate::places::{Place, places_within};
@@ -38,7 +38,7 @@ pub fn has_directory_size(
 ) -> Result<bool, NoMemory>
     requires sizes { HasSizes geo.now }
     requires within { Within geo.now leaves.now }
-    ensures { IfOk result (λ has. (v : Volume) (d : ℕ) → v.geo ≡ geo.now → IsMapped v d size leaves.now → has ≡ has_sound_size v d) }
+    ensures { IfOk result (λ has. (v : Volume) (d : ℕ) → v.geo ≡ geo.now → MapsBlocks v d size leaves.now → has ≡ has_sound_size v d) }
 {
     let bytes = block_bytes(geo);
     let per_cluster = blocks_per_cluster(geo);

@@ -5,7 +5,7 @@ use Rattle.o2_model.specs.declared.check.Check.TheVariants.{InodeSize}
 use Rattle.o2_dir.specs.Blocks.{block_at_place}
 use Rattle.o2_dir.specs.Fails.{directory_checks}
 use Rattle.o2_dir.proofs.Faults.{both_ok, fails_by}
-use Rattle.o2_dir.proofs.Whole.{size_told, places_told, entries_kept, faults_kept, fails_size, fails_blocks, size_sound}
+use Rattle.o2_dir.proofs.Whole.{maps, size_told, places_told, entries_kept, faults_kept, fails_size, fails_blocks, size_sound}
 use Rattle.o2_dir.proofs.mapped_directory.mapped.Goals as goal
 
 pub returns-then-not-has_size-clause-fails : goal.returns-then-not-has_size-clause-fails
@@ -13,7 +13,7 @@ returns-then-not-has_size-clause-fails g c = record {
   own = inr (inl refl);
   first = λ v seen.
       let h = seen.mapped in
-      let size = size_told v c.args.geo.now c.args.inode c.args.size c.args.leaves.now seen.shows.numbers h _ _ _ c.as_slice.result.now _
+      let size = size_told v c.args.geo.now c.args.inode c.args.size c.args.leaves.now seen.shows.numbers (maps v c.args.inode c.args.size c.args.leaves.now h) _ _ _ c.as_slice.result.now _
       c.block_bytes-bytes.ensures.bytes c.blocks_per_cluster-per_cluster.ensures.blocks c.in_ok-places.ensures.places c.as_slice.ensures.value c.has_size.ensures in
       fails_size v c.args.inode InodeSize c.args.inode refl refl h.sound (sym size ∙ c.if-not-has_size.true);
 }

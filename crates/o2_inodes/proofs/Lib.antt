@@ -1,0 +1,2 @@
+pub mod ListsTold
+pub mod Surveyed
