@@ -5,3 +5,5 @@ pub mod Pairs
 pub mod Heads
 pub mod Recounting
 pub mod BlockByBlock
+pub mod TreesTold
+pub mod Surveys

@@ -1,2 +1,4 @@
+pub mod NamedRoots
 pub mod Readings
 pub mod Recounts
+pub mod TreeReadings

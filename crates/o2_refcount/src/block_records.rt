@@ -1,16 +1,18 @@
 // The records of one refcount block.
-ghost use Rattle.std.specs.Prelude.{◌≡◌, ℕ, ◌+◌, ◌*◌, ◌^◌, ◌≤◌, true, List, length, drop, OnOk};
+ghost use Rattle.std.specs.Prelude.{◌≡◌, ℕ, ◌+◌, ◌*◌, ◌^◌, ◌≤◌, true, List, length, drop, OnOk, IfOk};
 ghost use Rattle.std.specs.Result.{IfErr};
 ghost use Rattle.o2_ondisk.specs.RefcountListHeaders.{refcount_list_header_of};
 ghost use Rattle.o2_ondisk.specs.RefcountRecs.{refcount_rec_of};
 ghost use Rattle.o2_model.specs.RefcountTrees.{Refcounts, refcount_header, is_sound_refcount_header, read_refcounts, read_refcount_block as read_block_of};
 ghost use Rattle.o2_model.specs.Volume.{Volume};
 ghost use Rattle.o2_model.specs.Words.{table};
+ghost use Rattle.o2_tables.specs.Rows.{IsRefcountBlockRow};
 ghost use Rattle.o2_view.specs.Geos.{HasSizes, LiesIn};
 ghost use Rattle.o2_view.specs.OwnChecks.{BlockFails};
 ghost use Rattle.o2_view.specs.Views.{Shows, OnlyReads};
 ghost use Rattle.o2_refcount.specs.Readings.{Keeps};
 
+use crate::block_row::{row_of, row_out_of_range};
 use crate::reading::{Reading, add_fault, add_record, is_sound_record};
 use o2_disk::{Disk, NoMemory};
 use o2_extent::{block_bytes, is_block_in_range, is_refcount_block_at, look};
@@ -18,6 +20,7 @@ use o2_model::Geo;
 use o2_ondisk::{
     RefcountListHeader, read_refcount_block, read_refcount_list_header, read_refcount_rec,
 };
+use o2_tables::RefcountBlockRow;
 use o2_view::{View, ViewFault};
 
 /// Where the records begin in a refcount block; the header of their list stands 16 bytes before.
@@ -69,7 +72,7 @@ fn read_records(
 
 /// Reads the records of block b, where these are its bytes.
 #[tactic(auto, using(o2_extent::proofs::Sizes::some_bytes))]
-fn read_bytes(geo: &Geo, b: u64, bytes: &[u8], reading: &mut Reading) -> Result<(), NoMemory>
+pub fn read_bytes(geo: &Geo, b: u64, bytes: &[u8], reading: &mut Reading) -> Result<(), NoMemory>
     requires sizes { HasSizes geo.now }
     requires size { length bytes.now ≡ 2 ^ geo.now.block_bits }
     ensures { OnOk result ((v : Volume) → v.geo ≡ geo.now → bytes.now ≡ v.at b → (before : List ℕ) (t : Refcounts) → Keeps before reading.old t
@@ -83,14 +86,16 @@ fn read_bytes(geo: &Geo, b: u64, bytes: &[u8], reading: &mut Reading) -> Result<
     read_records(geo, b, bytes, header.used, reading)
 }
 
-/// Reads the records of block b. One that no structure can be in is at fault, and is not looked at.
+/// Reads the records of block b, and answers its row. One that no structure can be in is at fault, and is not looked at.
 pub fn read_block<D: Disk, const N: usize>(
     view: &mut View<'_, D, N>,
     geo: &Geo,
     b: u64,
     reading: &mut Reading,
-) -> Result<(), ViewFault>
+) -> Result<RefcountBlockRow, ViewFault>
     requires { LiesIn geo.now view.old }
+    ensures of { IfOk result (λ row. row.block ≡ b) }
+    ensures row { IfOk result (λ row. (v : Volume) → Shows view.old geo.now v → IsRefcountBlockRow v row) }
     ensures read { OnOk result ((v : Volume) → Shows view.old geo.now v → (before : List ℕ) (t : Refcounts) → Keeps before reading.old t
         → Keeps before reading.new (read_block_of v t b)) }
     ensures reads { OnlyReads view.old view.new }
@@ -98,9 +103,11 @@ pub fn read_block<D: Disk, const N: usize>(
 {
     if !is_block_in_range(geo, b) {
         add_fault(reading, b)?;
-        return Ok(());
+        return Ok(row_out_of_range(b));
     }
     let block = look(view, geo, b)?;
-    read_bytes(geo, b, block.as_slice(), reading)?;
-    Ok(())
+    let bytes = block.as_slice();
+    let row = row_of(geo, b, &read_refcount_block(bytes));
+    read_bytes(geo, b, bytes, reading)?;
+    Ok(row)
 }
