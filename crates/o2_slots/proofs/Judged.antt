@@ -15,13 +15,11 @@ use Rattle.o2_model.specs.Inodes.{leaf_records}
 use Rattle.o2_model.specs.LeafRecords.{clusters_in, are_without_gap, have_no_flags}
 use Rattle.o2_model.specs.Checks.Extent.{extent_faults}
 use Rattle.o2_model.specs.Checks.SlotMap.{slot_entry_size, is_sound_slot_map}
-use Rattle.o2_view.specs.OwnChecks.{ReadFails, ReadFailsOf}
-use Rattle.o2_view.specs.Views.{Shows, ShowsBytes, OnlyReads}
+use Rattle.o2_view.specs.OwnChecks.{ReadFailsOf}
+use Rattle.o2_view.specs.Views.{ShowsBytes}
 use Rattle.o2_view.specs.declared.fault.ReadFault.{ReadFault}
 use Rattle.o2_view.specs.declared.fault.ReadFault.TheVariants as read
 use Rattle.o2_view.specs.declared.view.View.{View}
-use Rattle.o2_view.proofs.Faults.{rose_before}
-use Rattle.o2_view.proofs.Shown.{still_shows}
 use Rattle.o2_extent.specs.Readings.{extent_checks}
 use Rattle.o2_slots.specs.SlotChecks.{slot_map_checks, fault_of_map}
 
@@ -47,13 +45,13 @@ by_records v inode leaves none are = rw (none, are) refl
 
 module _ {D : Type 0} {N : ℕ} {g : disk.Ghosts D} where
   -- a fault that is met in the records of a slot map is the map's
-  pub map_fails : (old mid new : View D N g) (geo : Geo) (inode : ℕ) (bytes : List ℕ) → OnlyReads old mid → ((v : Volume) → Shows old geo v → bytes ≡ v.at inode)
-      → (fault : ReadFault) → ReadFailsOf (ShowsBytes mid geo inode bytes) mid new (extent_checks inode) fault → ReadFails old new geo (slot_map_checks inode) (fault_of_map inode fault)
-  map_fails old mid new geo inode bytes only are read.NoMemory fails = tt
-  map_fails old mid new geo inode bytes only are read.DeviceFault fails = rose_before _ _ _ only.later fails
-  map_fails old mid new geo inode bytes only are (read.Bad check b) fails = record {
+  pub map_fails : (old new : View D N g) (geo : Geo) (inode : ℕ) (bytes : List ℕ)
+      → (fault : ReadFault) → ReadFailsOf (ShowsBytes old geo inode bytes) old new (extent_checks inode) fault → ReadFailsOf (ShowsBytes old geo inode bytes) old new (slot_map_checks inode) (fault_of_map inode fault)
+  map_fails old new geo inode bytes read.NoMemory fails = tt
+  map_fails old new geo inode bytes read.DeviceFault fails = fails
+  map_fails old new geo inode bytes (read.Bad check b) fails = record {
     own = inl refl;
-    first = λ v shows. elim (fails.first v (record { shows = still_shows only shows; is = are v shows })) [
+    first = λ v seen. elim (fails.first v seen) [
       | inl h ↦ inl (refl, fails_there inode (is_sound_slot_map v inode) (bad_extents v inode b h.1))
       | inr h ↦ absurd h.1
     ];

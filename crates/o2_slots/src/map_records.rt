@@ -1,47 +1,24 @@
 // The leaf records of a slot map.
-ghost use Rattle.std.specs.Prelude.{◌≡◌, ◌*◌, ◌^◌, ◌<◌, false, true, nat_le, ◌&&◌, IfOk, MatchOption};
-ghost use Rattle.std.specs.Option.{IfSome};
+ghost use Rattle.std.specs.Prelude.{◌≡◌, ◌*◌, ◌^◌, nat_le, ◌&&◌, length, IfOk};
 ghost use Rattle.std.specs.Result.{IfErr};
 ghost use Rattle.o2_model.specs.Volume.{Volume};
 ghost use Rattle.o2_model.specs.Clusters.{cluster_size};
 ghost use Rattle.o2_model.specs.Inodes.{leaf_records};
 ghost use Rattle.o2_model.specs.LeafRecords.{clusters_in, are_without_gap, have_no_flags};
 ghost use Rattle.o2_model.specs.Checks.SlotMap.{slot_entry_size};
-ghost use Rattle.o2_view.specs.Geos.{HasSizes, Reaches};
-ghost use Rattle.o2_view.specs.OwnChecks.{NoneFails, ReadFails};
-ghost use Rattle.o2_view.specs.Views.{Shows, OnlyReads};
+ghost use Rattle.o2_view.specs.Geos.{HasSizes, LiesIn, Reaches};
+ghost use Rattle.o2_view.specs.OwnChecks.{NoneFails, ReadFails, ReadFailsOf};
+ghost use Rattle.o2_view.specs.Views.{Shows, ShowsBytes, OnlyReads};
 ghost use Rattle.o2_extent.specs.Readings.{Within};
 ghost use Rattle.o2_slots.specs.SlotChecks.{slot_map_checks, fault_of_map};
 
 use crate::entries::entry_size;
+use crate::gapless::{clusters_without_gap, have_no_flags};
 use o2_disk::Disk;
 use o2_extent::{Leaf, Leaves, look, records_in};
 use o2_model::{Check, Geo};
 use o2_view::{ReadFault, View};
 use std::alloc::Global;
-
-/// How many clusters are under records that follow one another without a gap from cluster 0 on. None where there is a gap.
-fn clusters_without_gap(leaves: &[Leaf]) -> Option<u64>
-    ensures found { MatchOption result (are_without_gap leaves.now ≡ false) (λ clusters. are_without_gap leaves.now ≡ true) }
-    ensures clusters { IfSome result (λ clusters. clusters ≡ clusters_in leaves.now) }
-    ensures few { IfSome result (λ clusters. clusters < 2 ^ 33) }
-{
-    let mut end = 0;
-    for leaf in leaves {
-        if u64::from(leaf.cpos) != end {
-            return None;
-        }
-        end = u64::from(leaf.cpos) + u64::from(leaf.clusters);
-    }
-    Some(end)
-}
-
-/// Whether none of the records has a flag.
-fn have_no_flags(leaves: &[Leaf]) -> bool
-    ensures { result ≡ have_no_flags leaves.now }
-{
-    leaves.iter().all(|leaf| leaf.flags == 0)
-}
 
 /// Whether these records have room for the entries of all slots, in clusters that follow one another and have no flags.
 fn have_room(geo: &Geo, leaves: &[Leaf]) -> bool
@@ -69,6 +46,35 @@ fn fault_of_map(inode: u64, fault: ReadFault) -> ReadFault
     }
 }
 
+/// The leaf records of the slot map whose dinode is in block `inode`, where these are its bytes. Bad where SLOT_MAP fails for it.
+pub fn map_records_in<D: Disk, const N: usize>(
+    alloc: Global,
+    view: &mut View<'_, D, N>,
+    geo: &Geo,
+    inode: u64,
+    bytes: &[u8],
+) -> Result<Leaves, ReadFault>
+    requires geo { LiesIn geo.now view.old }
+    requires size { length bytes.now ≡ 2 ^ geo.now.block_bits }
+    ensures told { IfOk result (λ leaves. (v : Volume) → ShowsBytes view.old geo.now inode bytes.now v
+        → NoneFails (slot_map_checks inode) v × (leaves ≡ leaf_records v inode)) }
+    ensures within { IfOk result (Within geo.now) }
+    ensures fails { IfErr result (ReadFailsOf (ShowsBytes view.old geo.now inode bytes.now) view.old view.new (slot_map_checks inode)) }
+    ensures reads { OnlyReads view.old view.new }
+{
+    let leaves = match records_in(alloc, view, geo, inode, bytes) {
+        Ok(leaves) => leaves,
+        Err(fault) => return Err(fault_of_map(inode, fault)),
+    };
+    if !have_room(geo, leaves.as_slice()) {
+        return Err(ReadFault::Bad {
+            check: Check::SlotMap,
+            block: inode,
+        });
+    }
+    Ok(leaves)
+}
+
 /// The leaf records of the slot map whose dinode is in block `inode`. Bad where SLOT_MAP fails for it.
 pub fn map_records<D: Disk, const N: usize>(
     alloc: Global,
@@ -83,15 +89,5 @@ pub fn map_records<D: Disk, const N: usize>(
     ensures reads { OnlyReads view.old view.new }
 {
     let block = look(view, geo, inode)?;
-    let leaves = match records_in(alloc, view, geo, inode, block.as_slice()) {
-        Ok(leaves) => leaves,
-        Err(fault) => return Err(fault_of_map(inode, fault)),
-    };
-    if !have_room(geo, leaves.as_slice()) {
-        return Err(ReadFault::Bad {
-            check: Check::SlotMap,
-            block: inode,
-        });
-    }
-    Ok(leaves)
+    map_records_in(alloc, view, geo, inode, block.as_slice())
 }

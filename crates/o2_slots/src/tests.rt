@@ -2,8 +2,9 @@
 ghost use Rattle.std.specs.Prelude.{◌≡◌, ◌≤◌, length};
 ghost use Rattle.o2_view.specs.Geos.{HasSizes, HasNumbers, blocks_of};
 
-use crate::{SlotMap, occupied, slot_map};
+use crate::{SlotMap, clusters_without_gap, have_no_flags, occupied, slot_map};
 use o2_disk::{Disk, How, MemDisk};
+use o2_extent::Leaf;
 use o2_ondisk::{
     Dinode, DxSeed, ExtentListHeader, ExtentRec, ExtentSize, InodeFlags, Signature, read_dinode,
     write_dinode, write_extent_list_header, write_extent_rec,
@@ -153,5 +154,24 @@ fn tells_occupied_slots(rt: HostRuntime) -> Result<(), Fail> {
     assert!(rt; occupied(&map, 0));
     assert!(rt; !occupied(&map, 1));
     assert!(rt; !occupied(&map, 2));
+    Ok(())
+}
+
+// A record of two clusters.
+fn leaf(cpos: u32, flags: u8) -> Leaf {
+    Leaf {
+        cpos,
+        clusters: 2,
+        block: 48,
+        flags,
+    }
+}
+
+#[test]
+fn tells_gaps_and_flags(rt: HostRuntime) -> Result<(), Fail> {
+    assert_eq!(rt; clusters_without_gap(&[leaf(0, 0), leaf(2, 1)]), Some(4));
+    assert_eq!(rt; clusters_without_gap(&[leaf(0, 0), leaf(3, 0)]), None);
+    assert!(rt; have_no_flags(&[leaf(0, 0), leaf(3, 0)]));
+    assert!(rt; !have_no_flags(&[leaf(0, 0), leaf(2, 1)]));
     Ok(())
 }

@@ -1,7 +1,7 @@
 -- What is left has no gap from where the last record ends just where all have none.
 use Rattle.std.proofs.Common.{◌≡◌, ◌^◌, ◌<◌, drop, take}
 use Rattle.o2_model.specs.LeafRecords.{clusters_in, are_without_gap, follow_from}
-use Rattle.o2_slots.proofs.map_records.clusters_without_gap.Given as goal
+use Rattle.o2_slots.proofs.gapless.clusters_without_gap.Given as goal
 
 abbrev pub invariant-loop-leaf : goal.invariant-loop-leaf
 invariant-loop-leaf l = record {

@@ -1,0 +1,2 @@
+pub mod BlocksUnder
+pub mod JournalParts
