@@ -19,37 +19,45 @@ pub record IsGoodGroup (v : Volume) (g : Group) : Type 0 where
   pub bits : g.bits ≡ (group_desc v g.block).bits
 
 -- ---- the walk
-abbrev AllGood : Volume → GroupWalk → Type 0
-AllGood v w = AllByRecursion (IsGoodGroup v) w.groups
+-- What holds of no groups, and of groups with a good one behind them where it held of them, holds of those that the walk reaches.
+module _ (v : Volume) (P : List Group → Type 0)
+    (more : (a : Allocator) (chain b : ℕ) (gs : List Group) → P gs → is_good_group v a gs b ≡ true → P (push gs (record { of = a; chain = chain; block = b; bits = (group_desc v b).bits })))
+  where
+    chain_keeps : (a : Allocator) (chain most holder link : ℕ) (w : GroupWalk) → P w.groups → P (walk_chain v a chain most holder link w).groups
+    chain_keeps a chain zero holder link w h = h
+    chain_keeps a chain (suc most) holder link w h =
+        elim (cases_Bool (link == 0)) [
+          | inl end ↦ rw end h
+          | inr further ↦ elim (cases_Bool (is_good_group v a w.groups link)) [
+            | inr bad ↦ rw (further, bad) h
+            | inl good ↦
+                rw (further, good)
+                (chain_keeps a chain most link (group_desc v link).next_group (with_group w a chain link (group_desc v link).bits) (more a chain link w.groups h good))
+          ]
+        ]
 
-good_push : (v : Volume) (gs : List Group) (g : Group) → AllByRecursion (IsGoodGroup v) gs → IsGoodGroup v g → AllByRecursion (IsGoodGroup v) (push gs g)
-good_push v [] g all is = (is, tt)
-good_push v (x ∷ xs) g all is = (all.0, good_push v xs g all.1 is)
+    chains_keep : (a : Allocator) (chain : ℕ) (heads : List ℕ) (w : GroupWalk) → P w.groups → P (walk_chains v a chain heads w).groups
+    chains_keep a chain [] w h = h
+    chains_keep a chain (head ∷ rest) w h = chains_keep a (chain + 1) rest _ (chain_keeps a chain (blocks v) a.block head w h)
 
-chain_good : (v : Volume) (a : Allocator) (chain most holder link : ℕ) (w : GroupWalk) → AllGood v w → AllGood v (walk_chain v a chain most holder link w)
-chain_good v a chain zero holder link w h = h
-chain_good v a chain (suc most) holder link w h =
-    elim (cases_Bool (link == 0)) [
-      | inl end ↦ rw end h
-      | inr further ↦ elim (cases_Bool (is_good_group v a w.groups link)) [
-        | inr bad ↦ rw (further, bad) h
-        | inl good ↦
-            let more = good_push v w.groups (record { of = a; chain = chain; block = link; bits = (group_desc v link).bits }) h (record { walked = w.groups; good = good; bits = refl }) in
-            rw (further, good) (chain_good v a chain most link (group_desc v link).next_group (with_group w a chain link (group_desc v link).bits) more)
-      ]
-    ]
+    allocators_keep : (some : List Allocator) (w : GroupWalk) → P w.groups → P (walk_allocators v some w).groups
+    allocators_keep [] w h = h
+    allocators_keep (a ∷ some) w h = allocators_keep some _ (chains_keep a 0 (chain_heads v a) w h)
 
-chains_good : (v : Volume) (a : Allocator) (chain : ℕ) (heads : List ℕ) (w : GroupWalk) → AllGood v w → AllGood v (walk_chains v a chain heads w)
-chains_good v a chain [] w h = h
-chains_good v a chain (head ∷ rest) w h = chains_good v a (chain + 1) rest _ (chain_good v a chain (blocks v) a.block head w h)
+    pub groups_by : P [] → P (groups v)
+    unfolding group_walk
+    groups_by none = allocators_keep (allocators v) _ none
 
-allocators_good : (v : Volume) (more : List Allocator) (w : GroupWalk) → AllGood v w → AllGood v (walk_allocators v more w)
-allocators_good v [] w h = h
-allocators_good v (a ∷ more) w h = allocators_good v more _ (chains_good v a 0 (chain_heads v a) w h)
+pub each_push : {A : Type 0} (P : A → Type 0) (xs : List A) (x : A) → AllByRecursion P xs → P x → AllByRecursion P (push xs x)
+each_push P [] x all is = (is, tt)
+each_push P (y ∷ ys) x all is = (all.0, each_push P ys x all.1 is)
+
+pub good_more : (v : Volume) (a : Allocator) (chain b : ℕ) (gs : List Group) → AllByRecursion (IsGoodGroup v) gs → is_good_group v a gs b ≡ true
+    → AllByRecursion (IsGoodGroup v) (push gs (record { of = a; chain = chain; block = b; bits = (group_desc v b).bits }))
+good_more v a chain b gs all good = each_push (IsGoodGroup v) gs _ all (record { walked = gs; good = good; bits = refl })
 
 pub groups_good : (v : Volume) → AllByRecursion (IsGoodGroup v) (groups v)
-unfolding group_walk
-groups_good v = allocators_good v (allocators v) _ tt
+groups_good v = groups_by v (AllByRecursion (IsGoodGroup v)) (good_more v) tt
 
 -- ---- what a group of blocks has
 before : (a b : Bool) → (a && b) ≡ true → a ≡ true
@@ -60,7 +68,7 @@ behind : (a b : Bool) → (a && b) ≡ true → b ≡ true
 behind true b h = h
 behind false b h = cc
 
-is_of_blocks : (v : Volume) (g : Group) (good : IsGoodGroup v g) → is_of_clusters g ≡ false → is_block_group v good.walked g.block ≡ true
+pub is_of_blocks : (v : Volume) (g : Group) (good : IsGoodGroup v g) → is_of_clusters g ≡ false → is_block_group v good.walked g.block ≡ true
 unfolding is_good_group
 is_of_blocks v g good other = let all = rw other at good.good in behind _ _ (before _ _ all)
 

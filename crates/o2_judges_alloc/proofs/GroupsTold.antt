@@ -71,7 +71,7 @@ inodes_not_clusters Clusters h = cc
 inodes_not_clusters Inodes h = refl
 inodes_not_clusters Metadata h = refl
 
-metadata_not_clusters : (u : BitUse) → are_metadata u ≡ true → are_clusters u ≡ false
+pub metadata_not_clusters : (u : BitUse) → are_metadata u ≡ true → are_clusters u ≡ false
 metadata_not_clusters Clusters h = cc
 metadata_not_clusters Inodes h = refl
 metadata_not_clusters Metadata h = refl

@@ -1,6 +1,8 @@
+pub mod ApartGroups
 pub mod ClustersTold
 pub mod GoodGroups
 pub mod GroupsTold
+pub mod MetadataTold
 pub mod PlacesTold
 pub mod Ranges
 pub mod RowsTold

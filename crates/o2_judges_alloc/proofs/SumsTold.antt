@@ -9,7 +9,7 @@ use Rattle.o2_ondisk.specs.declared.chain_rec.ChainRec.{ChainRec}
 use Rattle.o2_model.specs.declared.check.Check.TheVariants as check
 use Rattle.o2_model.specs.Faults.{fails_at}
 use Rattle.o2_model.specs.Volume.{Volume}
-use Rattle.o2_model.specs.Allocators.{allocators}
+use Rattle.o2_model.specs.Allocators.{allocators, is_sound_chain_header}
 use Rattle.o2_model.specs.Groups.{group_desc}
 use Rattle.o2_model.specs.Failing.{faults}
 use Rattle.o2_model.specs.Checks.AllocTotals.{has_totals as model_totals}
@@ -54,6 +54,13 @@ unfolding faults
 totals_told v rows table =
     all_rows_tell (λ r. r.allocator) (λ a. a.block) (model_totals v) has_totals rows (allocators v) table.allocators
     (each_is (λ r is. row_totals v r is) rows table.each)
+
+-- ---- CHAIN_HEADER
+pub headers_told : (v : Volume) (rows : List AllocatorRow) → IsAllocatorTable v rows → fails_at (λ r. r.allocator.block) (λ r. r.has_sound_header) rows ≡ faults v check.ChainHeader
+unfolding faults
+headers_told v rows table =
+    all_rows_tell (λ r. r.allocator) (λ a. a.block) (is_sound_chain_header v) (λ r. r.has_sound_header) rows (allocators v) table.allocators
+    (each_is (λ r is. is.header) rows table.each)
 
 -- ---- CHAIN_BITS
 module _ (v : Volume) (rows : List GroupRow) (sums : Sums) (table : IsGroupTable v rows) (are : AreSums rows sums) where

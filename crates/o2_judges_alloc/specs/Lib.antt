@@ -1,4 +1,6 @@
 pub mod AllocatorRows
+pub mod ApartGroups
 pub mod ChainSums
 pub mod ClusterRows
 pub mod GroupRows
+pub mod MetadataRows

@@ -3,22 +3,28 @@
 
 mod bit_use;
 mod block_bits;
+mod chain_headers;
 mod chain_numbers;
 mod chain_sums;
 mod cluster_bits;
 mod free_bits;
+mod given_blocks;
 mod inode_bits;
+mod metadata_blocks;
+mod metadata_uses;
 mod missing;
 mod places;
 mod sums;
 mod totals;
 
 pub use block_bits::block_alloc_bit;
+pub use chain_headers::chain_header;
 pub use chain_numbers::group_chain;
 pub use chain_sums::chain_bits;
 pub use cluster_bits::cluster_alloc_bit;
 pub use free_bits::group_free_bits;
 pub use inode_bits::inode_alloc_bit;
+pub use metadata_blocks::meta_block;
 pub use missing::group_missing;
 pub use totals::alloc_totals;
 

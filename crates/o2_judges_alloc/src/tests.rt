@@ -1,7 +1,9 @@
 // Each judge on a small table.
+mod metadata;
+
 use crate::{
-    alloc_totals, block_alloc_bit, chain_bits, cluster_alloc_bit, group_chain, group_free_bits,
-    group_missing, inode_alloc_bit,
+    alloc_totals, block_alloc_bit, chain_bits, chain_header, cluster_alloc_bit, group_chain,
+    group_free_bits, group_missing, inode_alloc_bit,
 };
 use o2_claims::Claims;
 use o2_model::{Allocator, BitUse, Bytes, Geo, Group, Items, Owner};
@@ -54,6 +56,7 @@ fn allocator(
         },
         used,
         total,
+        has_sound_header: true,
         chains: Items::from(Vec::from_slice(alloc, &[chain])?),
     })
 }
@@ -172,5 +175,25 @@ fn tells_other_sums(rt: HostRuntime) -> Result<(), Fail> {
     assert_eq!(rt; sums.as_slice(), [21].as_slice());
     let totals = alloc_totals(alloc, &allocators)?;
     assert_eq!(rt; totals.as_slice(), [21].as_slice());
+    Ok(())
+}
+
+#[test]
+fn tells_bad_headers(rt: HostRuntime) -> Result<(), Fail> {
+    let alloc = rt.alloc();
+    let chain = ChainRec {
+        free: 1,
+        total: 8,
+        blkno: 16,
+    };
+    let sound = allocator(alloc, 20, 7, 8, chain)?;
+    let bad = AllocatorRow {
+        has_sound_header: false,
+        ..allocator(alloc, 21, 7, 8, chain)?
+    };
+    let rows = [sound, bad];
+    let found = chain_header(alloc, &rows)?;
+    assert_eq!(rt; found.len(), 1);
+    assert_eq!(rt; found[0], 21);
     Ok(())
 }

@@ -1,0 +1,2 @@
+pub mod OriginRows
+pub mod Placed
