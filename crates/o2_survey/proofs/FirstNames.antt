@@ -56,7 +56,7 @@ pub or_none : (o : Option ℕ) → option_or o None ≡ o
 or_none None = refl
 or_none (Some x) = refl
 
-first_is : (v : Volume) (file : SystemFile) → first_inode (directory_entries v v.geo.sysdir) (system_name file) ≡ system_inode v file
+pub first_is : (v : Volume) (file : SystemFile) → first_inode (directory_entries v v.geo.sysdir) (system_name file) ≡ system_inode v file
 unfolding system_inode
 first_is v file = refl
 

@@ -3,3 +3,10 @@ pub mod FirstNames
 pub mod Rows
 pub mod SlotLists
 pub mod DirtyJournals
+pub mod SystemRows
+pub mod GroupRows
+pub mod GoodGroups
+pub mod Members
+pub mod InodeBlocks
+pub mod NamedJournals
+pub mod OwnInodes

@@ -1,2 +1,4 @@
 pub mod SystemNames
 pub mod AllocatorRows
+pub mod SystemInodes
+pub mod GroupRows

@@ -9,10 +9,12 @@ ghost use Rattle.o2_view.specs.OwnChecks.{BlockFails};
 ghost use Rattle.o2_view.specs.Views.{Shows, OnlyReads};
 ghost use Rattle.o2_tables.specs.Rows.{IsAllocatorTable};
 ghost use Rattle.o2_survey.specs.SystemNames.{AreSystemNames};
+ghost use Rattle.o2_survey.specs.SystemInodes.{AreRead};
 ghost use Rattle.o2_survey.specs.AllocatorRows.{AreAllocatorRows, allocators_told, global_allocators};
 
 use crate::SystemNames;
 use crate::allocator_rows::row_of;
+use crate::named_inodes::SystemInodes;
 use o2_disk::Disk;
 use o2_model::{Allocator, BitUse, Geo, SlotFile, SystemFile};
 use o2_tables::{AllocatorRow, AllocatorTable};
@@ -47,11 +49,12 @@ fn add_row<D: Disk, const N: usize>(
     alloc: Global,
     view: &mut View<'_, D, N>,
     geo: &Geo,
+    inodes: &SystemInodes,
     told: Option<Allocator>,
     rows: &mut Vec<AllocatorRow>,
 ) -> Result<(), ViewFault>
     requires { LiesIn geo.now view.old }
-    ensures added { OnOk result ((v : Volume) → Shows view.old geo.now v → (before : List Told)
+    ensures added { OnOk result ((v : Volume) → Shows view.old geo.now v → AreRead v inodes.now → (before : List Told)
         → AreAllocatorRows v before rows.old.items → AreAllocatorRows v (before ++ allocators_told v told) rows.new.items) }
     ensures reads { OnlyReads view.old view.new }
     ensures fails { IfErr result (BlockFails view.old view.new) }
@@ -59,7 +62,7 @@ fn add_row<D: Disk, const N: usize>(
     let Some(a) = told else {
         return Ok(());
     };
-    let Some(row) = row_of(alloc, view, geo, a)? else {
+    let Some(row) = row_of(alloc, view, geo, inodes, a)? else {
         return Ok(());
     };
     put(rows, row)?;
@@ -72,11 +75,12 @@ fn add_rows_of_slot<D: Disk, const N: usize>(
     view: &mut View<'_, D, N>,
     geo: &Geo,
     names: &SystemNames,
+    inodes: &SystemInodes,
     slot: u16,
     rows: &mut Vec<AllocatorRow>,
 ) -> Result<(), ViewFault>
     requires { LiesIn geo.now view.old }
-    ensures added { OnOk result ((v : Volume) → Shows view.old geo.now v → AreSystemNames v names.now → (before : List Told)
+    ensures added { OnOk result ((v : Volume) → Shows view.old geo.now v → AreRead v inodes.now → AreSystemNames v names.now → (before : List Told)
         → AreAllocatorRows v before rows.old.items → AreAllocatorRows v (before ++ slot_allocators v slot) rows.new.items) }
     ensures reads { OnlyReads view.old view.new }
     ensures fails { IfErr result (BlockFails view.old view.new) }
@@ -85,8 +89,8 @@ fn add_rows_of_slot<D: Disk, const N: usize>(
     let inode_alloc = SystemFile::OfSlot(SlotFile::InodeAlloc, slot);
     let first = allocator_of(names, BitUse::Metadata, slot, extent_alloc);
     let second = allocator_of(names, BitUse::Inodes, slot, inode_alloc);
-    add_row(alloc, view, geo, first, rows)?;
-    add_row(alloc, view, geo, second, rows)
+    add_row(alloc, view, geo, inodes, first, rows)?;
+    add_row(alloc, view, geo, inodes, second, rows)
 }
 
 /// The rows of the allocators that belong to no slot: that of the global bitmap, then that of global_inode_alloc.
@@ -95,36 +99,38 @@ fn global_rows<D: Disk, const N: usize>(
     view: &mut View<'_, D, N>,
     geo: &Geo,
     names: &SystemNames,
+    inodes: &SystemInodes,
 ) -> Result<Vec<AllocatorRow>, ViewFault>
     requires { LiesIn geo.now view.old }
-    ensures told { IfOk result (λ rows. (v : Volume) → Shows view.old geo.now v → AreSystemNames v names.now → AreAllocatorRows v (global_allocators v) rows.items) }
+    ensures told { IfOk result (λ rows. (v : Volume) → Shows view.old geo.now v → AreRead v inodes.now → AreSystemNames v names.now → AreAllocatorRows v (global_allocators v) rows.items) }
     ensures reads { OnlyReads view.old view.new }
     ensures fails { IfErr result (BlockFails view.old view.new) }
 {
     let mut rows = Vec::new(alloc);
     let bitmap = allocator_of(names, BitUse::Clusters, NO_SLOT, SystemFile::GlobalBitmap);
     let inode_alloc = allocator_of(names, BitUse::Inodes, NO_SLOT, SystemFile::GlobalInodeAlloc);
-    add_row(alloc, view, geo, bitmap, &mut rows)?;
-    add_row(alloc, view, geo, inode_alloc, &mut rows)?;
+    add_row(alloc, view, geo, inodes, bitmap, &mut rows)?;
+    add_row(alloc, view, geo, inodes, inode_alloc, &mut rows)?;
     Ok(rows)
 }
 
 /// The allocators of the volume in their order, with what their dinodes say: those that the names tell and whose dinodes are
-/// valid and have chains. The dinode of each name is read once. NoMemory where memory runs out, DeviceFault where a read fails.
+/// valid and have chains. A dinode that is kept is not read again. NoMemory where memory runs out, DeviceFault where a read fails.
 pub fn allocators<D: Disk, const N: usize>(
     alloc: Global,
     view: &mut View<'_, D, N>,
     geo: &Geo,
     names: &SystemNames,
+    inodes: &SystemInodes,
 ) -> Result<AllocatorTable, ViewFault>
     requires { LiesIn geo.now view.old }
-    ensures told { IfOk result (λ rows. (v : Volume) → Shows view.old geo.now v → AreSystemNames v names.now → IsAllocatorTable v rows) }
+    ensures told { IfOk result (λ rows. (v : Volume) → Shows view.old geo.now v → AreRead v inodes.now → AreSystemNames v names.now → IsAllocatorTable v rows) }
     ensures reads { OnlyReads view.old view.new }
     ensures fails { IfErr result (BlockFails view.old view.new) }
 {
-    let mut rows = global_rows(alloc, view, geo, names)?;
+    let mut rows = global_rows(alloc, view, geo, names, inodes)?;
     for slot in 0..geo.slots {
-        add_rows_of_slot(alloc, view, geo, names, slot, &mut rows)?;
+        add_rows_of_slot(alloc, view, geo, names, inodes, slot, &mut rows)?;
     }
     Ok(AllocatorTable::from(rows))
 }

@@ -7,7 +7,7 @@ ghost use Rattle.o2_survey.specs.SystemNames.{inode_at};
 
 use crate::file_names::name_of;
 use o2_disk::NoMemory;
-use o2_model::{Entries, Entry, SystemFile};
+use o2_model::{Entry, SystemFile};
 use std::alloc::Global;
 use std::collections::BTreeMap;
 
@@ -44,13 +44,20 @@ fn put_inode(inodes: &mut BTreeMap<Vec<u8>, u64>, name: Vec<u8>, inode: u64) -> 
 }
 
 /// Puts the inode of an entry at its name, unless an earlier entry has the name.
-fn add_entry(inodes: &mut BTreeMap<Vec<u8>, u64>, entry: Entry) -> Result<(), NoMemory>
-    ensures { OnOk result ((name : List ℕ) → inode_at inodes.new name ≡ option_or (inode_at inodes.old name) (if is_named name entry then Some entry.inode else None)) }
+fn add_entry(
+    alloc: Global,
+    inodes: &mut BTreeMap<Vec<u8>, u64>,
+    entry: &Entry,
+) -> Result<(), NoMemory>
+    ensures { OnOk result ((name : List ℕ) → inode_at inodes.new name ≡ option_or (inode_at inodes.old name) (if is_named name entry.now then Some entry.now.inode else None)) }
 {
-    if has_name(inodes, &entry) {
+    if has_name(inodes, entry) {
         return Ok(());
     }
-    put_inode(inodes, entry.name.into_vec(), entry.inode)
+    let Ok(name) = entry.name.as_slice().to_vec(alloc) else {
+        return Err(NoMemory);
+    };
+    put_inode(inodes, name, entry.inode)
 }
 
 impl SystemNames {
@@ -58,12 +65,12 @@ impl SystemNames {
     ghost use Rattle.o2_survey.specs.SystemNames.{AreSystemNames};
 
     /// The names of the system directory that has these live entries. NoMemory where memory runs out.
-    pub fn new(alloc: Global, entries: Entries) -> Result<Self, NoMemory>
-        ensures { IfOk result (λ names. (v : Volume) → entries ≡ directory_entries v v.geo.sysdir → AreSystemNames v names) }
+    pub fn new(alloc: Global, entries: &[Entry]) -> Result<Self, NoMemory>
+        ensures { IfOk result (λ names. (v : Volume) → entries.now ≡ directory_entries v v.geo.sysdir → AreSystemNames v names) }
     {
         let mut inodes = BTreeMap::new(alloc);
-        for entry in entries.into_vec() {
-            add_entry(&mut inodes, entry)?;
+        for entry in entries {
+            add_entry(alloc, &mut inodes, entry)?;
         }
         Ok(SystemNames { inodes })
     }

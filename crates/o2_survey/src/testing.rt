@@ -3,7 +3,7 @@ ghost use Rattle.std.specs.Prelude.{◌≡◌, ◌≤◌, length};
 ghost use Rattle.o2_view.specs.Geos.{HasSizes, HasNumbers, blocks_of};
 
 use crate::SystemNames;
-use o2_model::{Bytes, Entries, Entry, Geo};
+use o2_model::{Bytes, Entry, Geo};
 use o2_ondisk::{
     ChainListHeader, ChainRec, Dinode, DxSeed, InodeFlags, RoleData, Signature, read_dinode,
     write_chain_list_header, write_chain_rec, write_dinode,
@@ -64,14 +64,20 @@ fn entry(alloc: Global, name: &str, inode: u64) -> Result<Entry, AllocError> {
     })
 }
 
-// Its names.
-pub fn system_names(alloc: Global) -> Result<SystemNames, ViewFault> {
+// Its entries.
+pub fn system_entries(alloc: Global) -> Result<Vec<Entry>, ViewFault> {
     let mut entries = Vec::new(alloc);
     for (name, inode) in &NAMED {
         let entry = entry(alloc, name, *inode)?;
         put(&mut entries, entry)?;
     }
-    let names = SystemNames::new(alloc, Entries::from(entries))?;
+    Ok(entries)
+}
+
+// Its names.
+pub fn system_names(alloc: Global) -> Result<SystemNames, ViewFault> {
+    let entries = system_entries(alloc)?;
+    let names = SystemNames::new(alloc, &entries)?;
     Ok(names)
 }
 

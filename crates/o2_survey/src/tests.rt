@@ -2,12 +2,16 @@
 ghost use Rattle.std.specs.Prelude.{◌≤◌};
 
 use crate::testing::{
-    FIRST_CHAIN, SECOND_CHAIN, allocator, bitmap, dinode, extent_alloc, numbers, system_names,
+    FIRST_CHAIN, SECOND_CHAIN, allocator, bitmap, dinode, extent_alloc, numbers, system_entries,
+    system_names,
 };
-use crate::{SystemNames, allocators, dirty_journals, journals};
+use crate::{
+    SystemInode, SystemInodes, SystemNames, allocators, dirty_journals, journals, own_inodes,
+    system_inodes,
+};
 use o2_disk::{Disk, How, MemDisk};
 use o2_model::{Allocator, BitUse, SlotFile, SystemFile};
-use o2_ondisk::ChainRec;
+use o2_ondisk::{ChainRec, InodeFlags, RoleData};
 use o2_tables::{AllocatorRow, AllocatorTable};
 use o2_view::{View, ViewFault};
 use std::alloc::Global;
@@ -42,7 +46,9 @@ fn table_of<D: Disk>(alloc: Global, disk: &mut D) -> Result<AllocatorTable, View
 {
     let mut view = View::<D, 1>::new(alloc, disk, 9, 28992)?;
     let names = system_names(alloc)?;
-    allocators(alloc, &mut view, &numbers(), &names)
+    let entries = system_entries(alloc)?;
+    let inodes = system_inodes(alloc, &mut view, &numbers(), &names, &entries)?;
+    allocators(alloc, &mut view, &numbers(), &names, &inodes)
 }
 
 // Whether the row tells this.
@@ -93,12 +99,23 @@ fn tells_allocators_in_their_order(rt: HostRuntime) -> Result<(), Fail> {
     Ok(())
 }
 
-// The dirty ones of these inodes on a disk of the volume.
-fn dirty_of<D: Disk>(alloc: Global, disk: &mut D, inodes: &[u64]) -> Result<Vec<u64>, ViewFault>
+// What the inodes say that the system directory names.
+fn read_inodes<D: Disk>(alloc: Global, disk: &mut D) -> Result<SystemInodes, ViewFault>
     requires { 28992 ≤ (D.state disk.old).sectors }
 {
     let mut view = View::<D, 1>::new(alloc, disk, 9, 28992)?;
-    dirty_journals(alloc, &mut view, &numbers(), inodes)
+    let names = system_names(alloc)?;
+    let entries = system_entries(alloc)?;
+    system_inodes(alloc, &mut view, &numbers(), &names, &entries)
+}
+
+// The dirty ones of these inodes on a disk of the volume.
+fn dirty_of<D: Disk>(alloc: Global, disk: &mut D, journals: &[u64]) -> Result<Vec<u64>, ViewFault>
+    requires { 28992 ≤ (D.state disk.old).sectors }
+{
+    let inodes = read_inodes(alloc, disk)?;
+    let found = dirty_journals(alloc, &inodes, journals)?;
+    Ok(found)
 }
 
 // The lowest bit of what a bitmap has as its set bits is a journal's flag that it is dirty.
@@ -112,5 +129,38 @@ fn tells_dirty_journals(rt: HostRuntime) -> Result<(), Fail> {
     let found = dirty_of(alloc, &mut disk, &[50, 51, 28992])?;
     assert_eq!(rt; found.len(), 1);
     assert_eq!(rt; found[0], 51);
+    Ok(())
+}
+
+// Inode 51 is named once, 41 twice, and block 28992 is out of range.
+#[test]
+fn tells_inodes_that_are_named(rt: HostRuntime) -> Result<(), Fail> {
+    let alloc = rt.alloc();
+    let mut disk = MemDisk::new(alloc, 28992)?;
+    disk.attach(alloc, "disk", How::ReadWrite)?;
+    disk.write(51, &dinode(51, 0x101, 1, 0))?;
+    let inodes = read_inodes(alloc, &mut disk)?;
+    let told = SystemInode {
+        is_valid: true,
+        kind: None,
+        flags: InodeFlags(0x101),
+        has_refcount: false,
+        role_data: RoleData(1),
+    };
+    assert!(rt; inodes.row_of(51) == Some(told));
+    assert!(rt; inodes.row_of(41).is_some());
+    assert!(rt; inodes.row_of(28992).is_none());
+    Ok(())
+}
+
+#[test]
+fn tells_own_inodes(rt: HostRuntime) -> Result<(), Fail> {
+    let alloc = rt.alloc();
+    let entries = system_entries(alloc)?;
+    let own = own_inodes(alloc, &numbers(), entries.as_slice())?;
+    assert!(rt; own.contains(&34));
+    assert!(rt; own.contains(&41));
+    assert!(rt; own.contains(&28992));
+    assert!(rt; !own.contains(&35));
     Ok(())
 }

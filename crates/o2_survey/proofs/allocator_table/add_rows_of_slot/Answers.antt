@@ -8,10 +8,10 @@ use Rattle.o2_survey.proofs.allocator_table.add_rows_of_slot.Goals as goal
 
 pub returns-clause-added : goal.returns-clause-added
 returns-clause-added g c = on_ok_weaker c.add_row-2.result
-    (λ more v shows are before rows.
+    (λ more v shows read are before rows.
     let first = allocators_told v c.allocator_of-first.result in
     let second = allocators_told v c.allocator_of-second.result in
-    let one = c.in_ok-add_row.ensures.added v shows before rows in
+    let one = c.in_ok-add_row.ensures.added v shows read before rows in
     both_told v before first second _ _ c.add_row-2.new.rows.items (c.allocator_of-first.ensures v are) (c.allocator_of-second.ensures v are)
-    (more v (still_shows c.add_row.ensures.reads shows) (before ++ first) one))
+    (more v (still_shows c.add_row.ensures.reads shows) read (before ++ first) one))
     c.add_row-2.ensures.added

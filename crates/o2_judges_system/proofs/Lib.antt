@@ -1,0 +1,4 @@
+pub mod SlotNames
+pub mod OnBits
+pub mod Slots
+pub mod Entries
