@@ -1,8 +1,10 @@
 pub mod Backups
+pub mod BadJournals
 pub mod EntryLists
 pub mod FaultLists
 pub mod MetNames
 pub mod Numbers
+pub mod Sequence
 pub mod Skeletons
 pub mod Supers
 pub mod Tests

@@ -2,8 +2,8 @@
 use Rattle.std.specs.Prelude.{ℕ, Bool, bytes_eq, List}
 use Rattle.std.specs.List.{list_any}
 use Rattle.std.specs.BTreeSet.{BTreeSet}
-use Rattle.std.specs.Global.{Vec}
+use Rattle.std.specs.Borrow.{Bor}
 
 -- the name is one of them
-abbrev pub has_name : BTreeSet (Vec ℕ) → List ℕ → Bool
-has_name names name = list_any (λ (met : Vec ℕ). bytes_eq name met.items) names.keys
+abbrev pub has_name : BTreeSet (Bor (List ℕ)) → List ℕ → Bool
+has_name names name = list_any (λ (met : Bor (List ℕ)). bytes_eq name met.now) names.keys

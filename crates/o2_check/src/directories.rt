@@ -8,10 +8,11 @@ ghost use Rattle.o2_view.specs.OwnChecks.{BlockFails};
 ghost use Rattle.o2_model.specs.Orders.{is_none_of};
 ghost use Rattle.o2_model.specs.Volume.{is_valid, Volume};
 ghost use Rattle.o2_model.specs.Inodes.{is_directory};
+ghost use Rattle.o2_model.specs.Directories.{directory_entries};
 ghost use Rattle.o2_model.specs.Checks.Sysdir.{directory_faults, is_sound_directory as is_directory_sound};
 
 use crate::entry_names::have_sound_names;
-use o2_dir::{DirFault, entries_in, is_of_directory, is_valid_dinode};
+use o2_dir::{DirFault, Entries, entries_in, is_of_directory, is_valid_dinode};
 use o2_disk::Disk;
 use o2_extent::look;
 use o2_model::Geo;
@@ -45,45 +46,55 @@ pub fn valid_directory<D: Disk, const N: usize>(
     Ok(Some(block))
 }
 
-/// Whether EXTENT, INODE_SIZE, DIR_BLOCK, DIRENT_NAME and DIRENT_DUP hold for a directory whose block is in hand.
-fn has_sound_entries<D: Disk, const N: usize>(
+/// The live entries of a directory whose block is in hand. None where one of EXTENT, INODE_SIZE, DIR_BLOCK, DIRENT_NAME and
+/// DIRENT_DUP fails for it.
+fn sound_entries_in<D: Disk, const N: usize>(
     alloc: Global,
     view: &mut View<'_, D, N>,
     geo: &Geo,
     inode: u64,
     bytes: &[u8],
-) -> Result<bool, ViewFault>
+) -> Result<Option<Entries>, ViewFault>
     requires geo { LiesIn geo.now view.old }
     requires size { length bytes.now ≡ 2 ^ geo.now.block_bits }
     requires long { 512 ≤ length bytes.now }
     requires directory { (v : Volume) → Shows view.old geo.now v → is_directory v inode ≡ true }
-    ensures has { IfOk result (λ has. (v : Volume) → ShowsBytes view.old geo.now inode bytes.now v → has ≡ is_none_of (directory_faults v inode)) }
+    ensures some { IfOk result (λ found. IfSome found (λ entries. (v : Volume) → ShowsBytes view.old geo.now inode bytes.now v
+        → (is_none_of (directory_faults v inode) ≡ true) × (entries ≡ directory_entries v inode))) }
+    ensures none { IfOk result (λ found. IfNone found ((v : Volume) → ShowsBytes view.old geo.now inode bytes.now v → is_none_of (directory_faults v inode) ≡ false)) }
     ensures reads { OnlyReads view.old view.new }
     ensures fails { IfErr result (BlockFails view.old view.new) }
 {
-    match entries_in(alloc, view, geo, inode, bytes) {
-        Ok(found) => Ok(have_sound_names(alloc, found)?),
-        Err(DirFault::Bad { .. }) => Ok(false),
-        Err(DirFault::Absent) => Ok(false),
-        Err(DirFault::NoMemory) => Err(ViewFault::NoMemory),
-        Err(DirFault::DeviceFault) => Err(ViewFault::DeviceFault),
+    let entries = match entries_in(alloc, view, geo, inode, bytes) {
+        Ok(entries) => entries,
+        Err(DirFault::Bad { .. }) => return Ok(None),
+        Err(DirFault::Absent) => return Ok(None),
+        Err(DirFault::NoMemory) => return Err(ViewFault::NoMemory),
+        Err(DirFault::DeviceFault) => return Err(ViewFault::DeviceFault),
+    };
+    if !have_sound_names(alloc, entries.as_slice())? {
+        return Ok(None);
     }
+    Ok(Some(entries))
 }
 
-/// Whether block `inode` is a valid dinode of a directory for which these five checks hold.
-pub fn is_sound_directory<D: Disk, const N: usize>(
+/// The live entries of the directory in block `inode`, in order. None where it is no valid dinode of a directory, or one of the
+/// five checks fails for it.
+pub fn sound_entries<D: Disk, const N: usize>(
     alloc: Global,
     view: &mut View<'_, D, N>,
     geo: &Geo,
     inode: u64,
-) -> Result<bool, ViewFault>
+) -> Result<Option<Entries>, ViewFault>
     requires inode { Reaches geo.now view.old inode }
-    ensures is { IfOk result (λ is. (v : Volume) → Shows view.old geo.now v → is ≡ is_directory_sound v inode) }
+    ensures some { IfOk result (λ found. IfSome found (λ entries. (v : Volume) → Shows view.old geo.now v
+        → (is_directory_sound v inode ≡ true) × (entries ≡ directory_entries v inode))) }
+    ensures none { IfOk result (λ found. IfNone found ((v : Volume) → Shows view.old geo.now v → is_directory_sound v inode ≡ false)) }
     ensures reads { OnlyReads view.old view.new }
     ensures fails { IfErr result (BlockFails view.old view.new) }
 {
     let Some(block) = valid_directory(view, geo, inode)? else {
-        return Ok(false);
+        return Ok(None);
     };
-    has_sound_entries(alloc, view, geo, inode, block.as_slice())
+    sound_entries_in(alloc, view, geo, inode, block.as_slice())
 }

@@ -1,5 +1,5 @@
 // The names of a directory's entries.
-ghost use Rattle.std.specs.Prelude.{◌≡◌, ◌||◌, ◌&&◌, ℕ, List, [], not, filter, bytes_eq, IfOk, OnOk};
+ghost use Rattle.std.specs.Prelude.{◌≡◌, ◌||◌, ◌&&◌, ℕ, List, not, filter, bytes_eq, IfOk, OnOk};
 ghost use Rattle.o2_model.specs.Orders.{later_like, is_none_of};
 ghost use Rattle.o2_model.specs.Faults.{those_not};
 ghost use Rattle.o2_model.specs.Directories.{is_dot};
@@ -7,7 +7,7 @@ ghost use Rattle.o2_model.specs.Checks.DirentName.{is_sound_name as is_name_of_e
 ghost use Rattle.o2_model.specs.Checks.DirentDup.{are_namesakes};
 ghost use Rattle.o2_check.specs.Names.{has_name};
 
-use o2_dir::{Entries, Entry, is_dot_entry};
+use o2_dir::{Entry, is_dot_entry};
 use o2_disk::NoMemory;
 use std::alloc::Global;
 use std::collections::BTreeSet;
@@ -33,9 +33,9 @@ fn are_sound_names(entries: &[Entry]) -> bool
 }
 
 /// Puts a name among those that were met, and tells whether it is a new one.
-fn add_name(names: &mut BTreeSet<Vec<u8>>, name: Vec<u8>) -> Result<bool, NoMemory>
-    ensures new { IfOk result (λ is_new. is_new ≡ not (has_name names.old name.items)) }
-    ensures put { OnOk result ((other : List ℕ) → has_name names.new other ≡ (bytes_eq other name.items || has_name names.old other)) }
+fn add_name<'a>(names: &mut BTreeSet<&'a [u8]>, name: &'a [u8]) -> Result<bool, NoMemory>
+    ensures new { IfOk result (λ is_new. is_new ≡ not (has_name names.old name.now)) }
+    ensures put { OnOk result ((other : List ℕ) → has_name names.new other ≡ (bytes_eq other name.now || has_name names.old other)) }
 {
     match names.insert(name) {
         Ok(is_new) => Ok(is_new),
@@ -44,13 +44,13 @@ fn add_name(names: &mut BTreeSet<Vec<u8>>, name: Vec<u8>) -> Result<bool, NoMemo
 }
 
 /// Whether no two of the entries but the dots have one name.
-fn have_different_names(alloc: Global, entries: Vec<Entry>) -> Result<bool, NoMemory>
-    ensures { IfOk result (λ differ. differ ≡ is_none_of (later_like are_namesakes (filter (λ e. not (is_dot e)) entries.items))) }
+fn have_different_names(alloc: Global, entries: &[Entry]) -> Result<bool, NoMemory>
+    ensures { IfOk result (λ differ. differ ≡ is_none_of (later_like are_namesakes (filter (λ e. not (is_dot e)) entries.now))) }
 {
     let mut names = BTreeSet::new(alloc);
     for entry in entries {
-        let is_dot = is_dot_entry(&entry);
-        if !is_dot && !add_name(&mut names, entry.name.into_vec())? {
+        let is_dot = is_dot_entry(entry);
+        if !is_dot && !add_name(&mut names, entry.name.as_slice())? {
             return Ok(false);
         }
     }
@@ -58,12 +58,12 @@ fn have_different_names(alloc: Global, entries: Vec<Entry>) -> Result<bool, NoMe
 }
 
 /// Whether the names of a directory's live entries are sound, and none but the dots comes again.
-pub fn have_sound_names(alloc: Global, entries: Entries) -> Result<bool, NoMemory>
-    ensures { IfOk result (λ sound. sound ≡ (is_none_of (those_not (λ e. is_name_of_entry e.name) entries)
-        && is_none_of (later_like are_namesakes (filter (λ e. not (is_dot e)) entries)))) }
+pub fn have_sound_names(alloc: Global, entries: &[Entry]) -> Result<bool, NoMemory>
+    ensures { IfOk result (λ sound. sound ≡ (is_none_of (those_not (λ e. is_name_of_entry e.name) entries.now)
+        && is_none_of (later_like are_namesakes (filter (λ e. not (is_dot e)) entries.now)))) }
 {
-    if !are_sound_names(entries.as_slice()) {
+    if !are_sound_names(entries) {
         return Ok(false);
     }
-    have_different_names(alloc, entries.into_vec())
+    have_different_names(alloc, entries)
 }

@@ -7,19 +7,21 @@ use Rattle.o2_disk.specs.declared.disk.Disk as disk
 use Rattle.o2_model.specs.Volume.{Volume}
 use Rattle.o2_model.specs.declared.check.Check.{Check}
 use Rattle.o2_model.specs.declared.geo.Geo.{Geo}
-use Rattle.o2_view.specs.OwnChecks.{OwnCheck, IsOwn, FailsFirst}
+use Rattle.o2_view.specs.OwnChecks.{OwnCheck, IsOwn, FailsFirst, ReadFails}
 use Rattle.o2_view.specs.Views.{view_state, Shows, OnlyReads}
+use Rattle.o2_view.specs.declared.fault.ReadFault.{ReadFault}
+use Rattle.o2_view.specs.declared.fault.ReadFault.TheVariants as read
 use Rattle.o2_view.specs.declared.view.View.{View}
 use Rattle.o2_view.proofs.Faults.{rose_before}
 use Rattle.o2_view.proofs.Shown.{still_shows}
 use Rattle.o2_dir.specs.Paths.{OnPath, PathFails}
 use Rattle.o2_dir.specs.declared.fault.PathFault.{PathFault}
 use Rattle.o2_dir.specs.declared.fault.PathFault.TheVariants as path
-use Rattle.o2_check.specs.Skeleton.{HasSkeleton}
+use Rattle.o2_check.specs.Skeleton.{HasSkeleton, skeleton_checks}
 use Rattle.o2_debug.specs.Answers.{path_of, text_of, AnswersSome, IsOfOtherKind}
 use Rattle.o2_debug.specs.Commands.{PathLeads}
 use Rattle.o2_debug.specs.Fails.{LinesFail, AnswerFails, AnswerFailsAt, QueryFails}
-use Rattle.o2_debug.specs.Faults.{IsOfPath}
+use Rattle.o2_debug.specs.Faults.{IsOfPath, IsOfRead}
 use Rattle.o2_debug.specs.Objects.{query_checks}
 use Rattle.o2_debug.specs.declared.fault.DebugFault.{DebugFault}
 use Rattle.o2_debug.specs.declared.fault.DebugFault.TheVariants as debug
@@ -85,6 +87,17 @@ module _ {D : Type 0} {N : ℕ} {g : disk.Ghosts D} where
   end_fails new geo query before after kept b only leads debug.Absent fails = absurd fails
   end_fails new geo query before after kept b only leads debug.WrongKind fails = (fails.0, λ v shows start names begins. inr (b, (leads v shows start names begins, fails.1 v (still_shows only shows))))
   end_fails new geo query before after kept b only leads (debug.Bad check at) fails = (fails.0, λ v shows start names begins. inr (b, (leads v shows start names begins, fails.1.first v (still_shows only shows))))
+
+module _ {D : Type 0} {N : ℕ} {g : disk.Ghosts D} (old new : View D N g) (geo : Geo) (query : Query) (before : SinkState) (kept : Type 0) (none : kept) where
+  skeleton_fault : (fault : ReadFault) → ReadFails old new geo skeleton_checks fault → (given : DebugFault) → IsOfRead fault given → QueryFails (Shows old geo) (view_state old) (view_state new) query before before kept given
+  skeleton_fault read.NoMemory fails given same = subst (QueryFails (Shows old geo) (view_state old) (view_state new) query before before kept) (sym same) tt
+  skeleton_fault read.DeviceFault fails given same = subst (QueryFails (Shows old geo) (view_state old) (view_state new) query before before kept) (sym same) fails
+  skeleton_fault (read.Bad check b) fails given same = subst (QueryFails (Shows old geo) (view_state old) (view_state new) query before before kept) (sym same) (none, λ v shows. inl (fails.first v shows))
+
+  -- a check of the skeleton fails
+  pub judge_fails : {A : Type 0} (r : Result A DebugFault) (fault : ReadFault) → ReadFails old new geo skeleton_checks fault → IsErrAnd r (IsOfRead fault) → IfErr r (QueryFails (Shows old geo) (view_state old) (view_state new) query before before kept)
+  judge_fails (Ok x) fault fails same = tt
+  judge_fails (Err given) fault fails same = skeleton_fault fault fails given same
 
 -- the path is followed where the skeleton is sound, on a device that may have failed before
 pub skeleton_fails : (Was Is : Volume → Type 0) (old mid new : DiskState) (query : Query) (before after : SinkState) (kept : Type 0) → old.faults ≤ mid.faults → ((v : Volume) → Is v → Was v) → ((v : Volume) → Is v → HasSkeleton v)

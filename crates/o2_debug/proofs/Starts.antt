@@ -19,7 +19,7 @@ unfolding is_sound_directory
 directory_is_valid v d sound = first_of (is_valid v d) _ (first_of _ _ sound)
 
 pub valid_root : (v : Volume) → HasSkeleton v → is_valid v v.geo.root ≡ true
-valid_root v h = root_is_valid v (holds_unless v.geo.root (is_sound_root v) h.1.1.0)
+valid_root v h = root_is_valid v (holds_unless v.geo.root (is_sound_root v) h.1.1.1.0)
 
 pub valid_sysdir : (v : Volume) → HasSkeleton v → is_valid v v.geo.sysdir ≡ true
 valid_sysdir v h = directory_is_valid v v.geo.sysdir (holds_unless v.geo.sysdir (is_sound_directory v v.geo.sysdir) h.1.0)

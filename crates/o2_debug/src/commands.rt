@@ -4,7 +4,9 @@ ghost use Rattle.std.specs.Result.{IfErr};
 ghost use Rattle.o2_view.specs.Views.{view_state, view_bits, view_blocks, Shows, OnlyReads};
 ghost use Rattle.o2_model.specs.Volume.{Volume};
 ghost use Rattle.o2_dir.specs.PathTexts.{IsPath};
-ghost use Rattle.o2_check.specs.Skeleton.{HasSkeleton};
+ghost use Rattle.o2_view.specs.Geos.{LiesIn};
+ghost use Rattle.o2_view.specs.OwnChecks.{ReadFails};
+ghost use Rattle.o2_check.specs.Skeleton.{HasSkeleton, skeleton_checks};
 ghost use Rattle.o2_debug.specs.Answers.{path_of};
 ghost use Rattle.o2_debug.specs.Commands.{AnswersAt, AnswersSomeAt};
 ghost use Rattle.o2_debug.specs.Fails.{QueryFails};
@@ -14,11 +16,32 @@ use crate::{DebugFault, Query};
 use o2_check::judge_skeleton;
 use o2_disk::{Disk, Sink};
 use o2_model::Geo;
-use o2_view::View;
+use o2_view::{ReadFault, View};
 use std::alloc::Global;
 
+/// Judges the skeleton, whose tables no query needs.
+fn judge<D: Disk, const N: usize>(
+    alloc: Global,
+    view: &mut View<'_, D, N>,
+    geo: &Geo,
+) -> Result<(), ReadFault>
+    requires bits { geo.now.block_bits ≡ view_bits view.old }
+    requires least { 9 ≤ geo.now.block_bits }
+    requires most { geo.now.block_bits ≤ 12 }
+    requires device { (v : Volume) → Shows view.old geo.now v → view_blocks view.old ≡ v.on_device }
+    ensures told { OnOk result ((v : Volume) → Shows view.old geo.now v → HasSkeleton v) }
+    ensures lies { OnOk result (LiesIn geo.now view.old) }
+    ensures reads { OnlyReads view.old view.new }
+    ensures fails { IfErr result (ReadFails view.old view.new geo.now skeleton_checks) }
+{
+    match judge_skeleton(alloc, view, geo) {
+        Ok(_skeleton) => Ok(()),
+        Err(fault) => Err(fault),
+    }
+}
+
 /// Answers a query. `geo` is what the superblock tells, and the view has all whole blocks of the device. Bad where a check of the
-/// skeleton fails (SUPER, SYSDIR, ROOT), then Absent, WrongKind and Bad in the order of the path, and of the inode at its end.
+/// skeleton fails (the first seven), then Absent, WrongKind and Bad in the order of the path, and of the inode at its end.
 /// Nothing is put before one of these.
 pub fn command<D: Disk, K: Sink, const N: usize>(
     alloc: Global,
@@ -40,6 +63,6 @@ pub fn command<D: Disk, K: Sink, const N: usize>(
         (out.new ≡ out.old)) }
     ensures quiet { (IsErrOf result DebugFault.OutputFault → ⊥) → (K.state out.new).faults ≡ (K.state out.old).faults }
 {
-    judge_skeleton(alloc, view, geo)?;
+    judge(alloc, view, geo)?;
     answer_at_path(alloc, view, geo, query, out)
 }

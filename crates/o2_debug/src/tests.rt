@@ -1,8 +1,8 @@
-// Queries of a small volume in memory.
+// Queries of a whole volume in memory.
 use crate::{DebugFault, Query, ask};
 use o2_dir::{PathText, is_path};
 use o2_disk::{Disk, How, MemDisk, MemSink};
-use o2_test_volumes::put_small_volume;
+use o2_test_volumes::put_whole_volume;
 use o2_view::find_super;
 use std::alloc::Global;
 use std::process::Abort;
@@ -14,7 +14,7 @@ fn volume(rt: &impl Abort, alloc: Global) -> Result<MemDisk, Fail> {
     let mut disk = MemDisk::new(alloc, 128)?;
     disk.attach(alloc, "made", How::ReadWrite)?;
     assert!(rt; disk.sectors() >= 128);
-    put_small_volume(&mut disk)?;
+    put_whole_volume(&mut disk)?;
     Ok(disk)
 }
 
@@ -42,34 +42,103 @@ fn path(alloc: Global, text: &str) -> Result<PathText, Fail> {
     Ok(PathText::from(String::from_str(alloc, text)?))
 }
 
+// What is put for a query that is answered.
+fn put_for(
+    rt: &impl Abort,
+    alloc: Global,
+    disk: &mut MemDisk,
+    query: &Query,
+) -> Result<MemSink, Fail> {
+    let mut out = MemSink::new(alloc);
+    assert_eq!(rt; answered(rt, alloc, disk, query, &mut out)?, None);
+    Ok(out)
+}
+
 #[test]
-fn answers_queries(rt: HostRuntime) -> Result<(), Fail> {
+fn lists_directories(rt: HostRuntime) -> Result<(), Fail> {
     let alloc = rt.alloc();
     let mut disk = volume(&rt, alloc)?;
-    let mut out = MemSink::new(alloc);
-    let query = Query::Ls {
-        path: path(alloc, "/")?,
-    };
-    assert_eq!(rt; answered(&rt, alloc, &mut disk, &query, &mut out)?, None);
-    assert_eq!(rt; out.bytes(), b"5 2 .\n5 2 ..\n8 1 a\n".as_slice());
-    let mut out = MemSink::new(alloc);
+    for (text, lines) in [
+        (
+            "/",
+            "18 2 .\n18 2 ..\n28 2 d\n29 1 f\n30 1 a\n31 1 b\n33 7 l\n",
+        ),
+        ("/d", "28 2 .\n18 2 ..\n29 1 h\n"),
+    ] {
+        let query = Query::Ls {
+            path: path(alloc, text)?,
+        };
+        let out = put_for(&rt, alloc, &mut disk, &query)?;
+        assert_eq!(rt; out.bytes(), lines.as_bytes(), "{text}");
+    }
+    Ok(())
+}
+
+// What `stat` says of the file `f`.
+const NUMBERS_OF_FILE: &str = "Inode: 29
+Kind: file
+Mode: 0644
+Owner: 0 0
+Links: 2
+Size: 12288
+Clusters: 2
+Atime: 0 0
+Ctime: 0 0
+Mtime: 0 0
+Extent: 0 1 80 0
+Extent: 2 1 104 0
+";
+
+// And of the link `l`.
+const NUMBERS_OF_LINK: &str = "Inode: 33
+Kind: link
+Mode: 0777
+Owner: 0 0
+Links: 1
+Size: 1
+Clusters: 0
+Atime: 0 0
+Ctime: 0 0
+Mtime: 0 0
+";
+
+#[test]
+fn tells_numbers_and_extents(rt: HostRuntime) -> Result<(), Fail> {
+    let alloc = rt.alloc();
+    let mut disk = volume(&rt, alloc)?;
+    for (text, lines) in [("/f", NUMBERS_OF_FILE), ("/l", NUMBERS_OF_LINK)] {
+        let query = Query::Stat {
+            path: path(alloc, text)?,
+        };
+        let out = put_for(&rt, alloc, &mut disk, &query)?;
+        assert_eq!(rt; out.bytes(), lines.as_bytes(), "{text}");
+    }
+    // a record that is refcounted
     let query = Query::Stat {
         path: path(alloc, "/a")?,
     };
-    assert_eq!(rt; answered(&rt, alloc, &mut disk, &query, &mut out)?, None);
-    assert!(rt;
-        out.bytes()
-            .starts_with(b"Inode: 8\nKind: file\nMode: 0644\n")
-    );
-    assert!(rt; out.bytes().ends_with(b"\nExtent: 0 1 10 0\n"));
-    let mut out = MemSink::new(alloc);
+    let out = put_for(&rt, alloc, &mut disk, &query)?;
+    assert!(rt; out.bytes().ends_with(b"\nExtent: 0 1 88 2\n"));
+    Ok(())
+}
+
+#[test]
+fn puts_bytes(rt: HostRuntime) -> Result<(), Fail> {
+    let alloc = rt.alloc();
+    let mut disk = volume(&rt, alloc)?;
+    for text in ["/a", "/b"] {
+        let query = Query::Cat {
+            path: path(alloc, text)?,
+        };
+        let out = put_for(&rt, alloc, &mut disk, &query)?;
+        assert_eq!(rt; out.bytes(), b"hello".as_slice(), "{text}");
+    }
+    // the file `f` by its other name, a hole among its bytes
     let query = Query::Cat {
-        path: path(alloc, "/a")?,
+        path: path(alloc, "/d/h")?,
     };
-    assert_eq!(rt; answered(&rt, alloc, &mut disk, &query, &mut out)?, None);
-    assert_eq!(rt; out.bytes().len(), 5000);
-    assert!(rt; out.bytes().starts_with(&[b'a'; 4096]));
-    assert!(rt; out.bytes().ends_with(&[0; 904]));
+    let out = put_for(&rt, alloc, &mut disk, &query)?;
+    assert_eq!(rt; out.bytes(), [0; 12288].as_slice());
     Ok(())
 }
 
@@ -78,9 +147,11 @@ fn refuses_queries(rt: HostRuntime) -> Result<(), Fail> {
     let alloc = rt.alloc();
     let mut disk = volume(&rt, alloc)?;
     for (text, fault) in [
-        ("/b", DebugFault::Absent),
+        ("/c", DebugFault::Absent),
+        ("/d/a", DebugFault::Absent),
         ("/a/b", DebugFault::WrongKind),
         ("/", DebugFault::WrongKind),
+        ("/l", DebugFault::WrongKind),
     ] {
         let mut out = MemSink::new(alloc);
         let query = Query::Cat {

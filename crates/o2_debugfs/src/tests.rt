@@ -1,11 +1,11 @@
-// A query of a small volume in memory.
+// A query of a whole volume in memory.
 ghost use Rattle.o2_dir.specs.PathTexts.{IsPath};
 
 use crate::run_query;
 use o2_debug::Query;
 use o2_dir::{PathText, is_path};
 use o2_disk::{Disk, How, MemDisk, MemSink};
-use o2_test_volumes::put_small_volume;
+use o2_test_volumes::put_whole_volume;
 use std::alloc::Global;
 use std::process::Abort;
 use std::test::Fail;
@@ -14,7 +14,7 @@ fn volume(rt: &impl Abort, alloc: Global) -> Result<MemDisk, Fail> {
     let mut disk = MemDisk::new(alloc, 128)?;
     disk.attach(alloc, "made", How::ReadWrite)?;
     assert!(rt; disk.sectors() >= 128);
-    put_small_volume(&mut disk)?;
+    put_whole_volume(&mut disk)?;
     Ok(disk)
 }
 
@@ -24,8 +24,13 @@ fn answers_a_query(rt: HostRuntime) -> Result<(), Fail> {
     let mut disk = volume(&rt, alloc)?;
     // the path, the status and the text
     for (text, status, lines) in [
-        ("/", 0, "5 2 .\n5 2 ..\n8 1 a\n"),
-        ("/b", 1, "debugfs: no such path: /b\n"),
+        (
+            "/",
+            0,
+            "18 2 .\n18 2 ..\n28 2 d\n29 1 f\n30 1 a\n31 1 b\n33 7 l\n",
+        ),
+        ("/d", 0, "28 2 .\n18 2 ..\n29 1 h\n"),
+        ("/c", 1, "debugfs: no such path: /c\n"),
     ] {
         let mut out = MemSink::new(alloc);
         let query = Query::Ls {

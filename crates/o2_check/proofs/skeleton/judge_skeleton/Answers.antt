@@ -1,43 +1,21 @@
--- The three answers as the three checks.
-use Rattle.std.proofs.Common.{inl, inr, refl, sym, ◌∙◌, ap}
+-- SUPER has held.
+use Rattle.std.proofs.Common.{sym, ◌∙◌}
+use Rattle.std.proofs.lemmas.Result.{IfOk-weaker, IfErr-weaker}
+use Rattle.o2_view.specs.Views.{Shows}
 use Rattle.o2_view.proofs.Shown.{still_shows}
-use Rattle.o2_check.proofs.Skeletons.{all_hold, super_fails, sysdir_fails, root_fails}
+use Rattle.o2_check.specs.Skeleton.{super_check, directory_checks}
+use Rattle.o2_check.proofs.Sequence.{fails_behind}
+use Rattle.o2_check.proofs.Skeletons.{super_holds}
 use Rattle.o2_check.proofs.skeleton.judge_skeleton.Goals as goal
 
-pub returns-then-not-branch-clause-fails : goal.returns-then-not-branch-clause-fails
-returns-then-not-branch-clause-fails g c = record {
-  own = inl refl;
-  first = λ v shows. super_fails v (sym (c.in_ok-has_sound_super.ensures.is v shows) ∙ c.if-not-branch.true);
-}
-
-pub returns-then-not-branch-2-clause-fails : goal.returns-then-not-branch-2-clause-fails
-returns-then-not-branch-2-clause-fails g c = record {
-  own = inr (inl refl);
-  first = λ v shows.
-      let at_sysdir = still_shows c.has_sound_super.ensures.reads shows in
-      sysdir_fails v _ _ (ap (λ geo. geo.sysdir) shows.numbers) (ap (λ geo. geo.root) shows.numbers)
-      (sym (c.in_ok-has_sound_super.ensures.is v shows) ∙ c.if-not-branch.false)
-      (sym (c.in_ok-is_sound_directory.ensures.is v at_sysdir) ∙ c.if-not-branch-2.true);
-}
-
-pub returns-in_default-clause-fails : goal.returns-in_default-clause-fails
-returns-in_default-clause-fails g c = record {
-  own = inr (inr (inl refl));
-  first = λ v shows.
-      let at_sysdir = still_shows c.has_sound_super.ensures.reads shows in
-      let none = rw c.in_default.is at c.in_ok-_root.ensures.none in
-      root_fails v _ _ (ap (λ geo. geo.sysdir) shows.numbers) (ap (λ geo. geo.root) shows.numbers)
-      (sym (c.in_ok-has_sound_super.ensures.is v shows) ∙ c.if-not-branch.false)
-      (sym (c.in_ok-is_sound_directory.ensures.is v at_sysdir) ∙ c.if-not-branch-2.false)
-      (none v (still_shows c.is_sound_directory.ensures.reads at_sysdir));
-}
-
 pub returns-clause-told : goal.returns-clause-told
-returns-clause-told g c v shows =
-    let at_sysdir = still_shows c.has_sound_super.ensures.reads shows in
-    let some = rw c.in-Some.is at c.in_ok-_root.ensures.some in
-    let tests = some v (still_shows c.is_sound_directory.ensures.reads at_sysdir) in
-    all_hold v _ _ (ap (λ geo. geo.sysdir) shows.numbers) (ap (λ geo. geo.root) shows.numbers)
-    (sym (c.in_ok-has_sound_super.ensures.is v shows) ∙ c.if-not-branch.false)
-    (sym (c.in_ok-is_sound_directory.ensures.is v at_sysdir) ∙ c.if-not-branch-2.false)
-    tests.0
+returns-clause-told g c = IfOk-weaker c.judge_directories.result _ _
+    (λ skeleton told v shows. (super_holds v (sym (c.in_ok-has_sound_super.ensures.is v shows) ∙ c.if-not-branch.false), (told v (still_shows c.has_sound_super.ensures.reads shows)).0))
+    c.judge_directories.ensures.told
+
+pub returns-clause-fails : goal.returns-clause-fails
+returns-clause-fails g c = IfErr-weaker c.judge_directories.result _ _
+    (fails_behind c.args.view.now c.has_sound_super.new.view c.judge_directories.new.view (Shows c.args.view.now c.args.geo.now) (Shows c.has_sound_super.new.view c.args.geo.now) super_check directory_checks
+    c.has_sound_super.ensures.reads (λ v shows. still_shows c.has_sound_super.ensures.reads shows)
+    (λ v shows. super_holds v (sym (c.in_ok-has_sound_super.ensures.is v shows) ∙ c.if-not-branch.false)))
+    c.judge_directories.ensures.fails
