@@ -5,7 +5,7 @@ use Rattle.o2_model.specs.declared.geo.Geo.{Geo}
 use Rattle.o2_model.specs.Volume.{Volume, is_valid}
 use Rattle.o2_dir.specs.PathTexts.{is_name, AreJoinedNames, IsPath}
 use Rattle.o2_dir.specs.Paths.{Begins, Leads}
-use Rattle.o2_check.specs.Skeleton.{HasSkeleton}
+use Rattle.o2_skeleton.specs.Skeleton.{HasSkeleton}
 use Rattle.o2_debug.specs.declared.query.Query.{Query}
 use Rattle.o2_debug.specs.Answers.{path_of, text_of, IsAnswerable}
 use Rattle.o2_debug.specs.Commands.{HasStart, PathLeads, IsAnswerText}

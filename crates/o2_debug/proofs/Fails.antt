@@ -17,7 +17,7 @@ use Rattle.o2_view.proofs.Shown.{still_shows}
 use Rattle.o2_dir.specs.Paths.{OnPath, PathFails}
 use Rattle.o2_dir.specs.declared.fault.PathFault.{PathFault}
 use Rattle.o2_dir.specs.declared.fault.PathFault.TheVariants as path
-use Rattle.o2_check.specs.Skeleton.{HasSkeleton, skeleton_checks}
+use Rattle.o2_skeleton.specs.Skeleton.{HasSkeleton, skeleton_checks}
 use Rattle.o2_debug.specs.Answers.{path_of, text_of, AnswersSome, IsOfOtherKind}
 use Rattle.o2_debug.specs.Commands.{PathLeads}
 use Rattle.o2_debug.specs.Fails.{LinesFail, AnswerFails, AnswerFailsAt, QueryFails}

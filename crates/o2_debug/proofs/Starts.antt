@@ -4,7 +4,7 @@ use Rattle.o2_model.specs.Volume.{Volume, is_valid}
 use Rattle.o2_model.specs.Checks.Sysdir.{is_sound_directory}
 use Rattle.o2_model.specs.Checks.Root.{is_sound_root}
 use Rattle.o2_model.proofs.Faults.{holds_unless}
-use Rattle.o2_check.specs.Skeleton.{HasSkeleton}
+use Rattle.o2_skeleton.specs.Skeleton.{HasSkeleton}
 
 first_of : (x y : Bool) → (x && y) ≡ true → x ≡ true
 first_of true y both = refl

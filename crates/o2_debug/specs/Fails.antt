@@ -8,7 +8,7 @@ use Rattle.o2_model.specs.declared.geo.Geo.{Geo}
 use Rattle.o2_view.specs.OwnChecks.{OwnCheck, FailsFirst, IsBad}
 use Rattle.o2_view.specs.Views.{view_state, Shows}
 use Rattle.o2_view.specs.declared.view.View.{View}
-use Rattle.o2_check.specs.Skeleton.{HasSkeleton, skeleton_checks}
+use Rattle.o2_skeleton.specs.Skeleton.{HasSkeleton, skeleton_checks}
 use Rattle.o2_debug.specs.declared.fault.DebugFault.{DebugFault}
 use Rattle.o2_debug.specs.declared.fault.DebugFault.TheVariants as debug
 use Rattle.o2_debug.specs.declared.query.Query.{Query}

@@ -6,16 +6,16 @@ ghost use Rattle.o2_model.specs.Volume.{Volume};
 ghost use Rattle.o2_dir.specs.PathTexts.{IsPath};
 ghost use Rattle.o2_view.specs.Geos.{LiesIn};
 ghost use Rattle.o2_view.specs.OwnChecks.{ReadFails};
-ghost use Rattle.o2_check.specs.Skeleton.{HasSkeleton, skeleton_checks};
+ghost use Rattle.o2_skeleton.specs.Skeleton.{HasSkeleton, skeleton_checks};
 ghost use Rattle.o2_debug.specs.Answers.{path_of};
 ghost use Rattle.o2_debug.specs.Commands.{AnswersAt, AnswersSomeAt};
 ghost use Rattle.o2_debug.specs.Fails.{QueryFails};
 
 use crate::at_path::answer_at_path;
 use crate::{DebugFault, Query};
-use o2_check::judge_skeleton;
 use o2_disk::{Disk, Sink};
 use o2_model::Geo;
+use o2_skeleton::judge_skeleton;
 use o2_view::{ReadFault, View};
 use std::alloc::Global;
 

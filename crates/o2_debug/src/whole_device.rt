@@ -4,7 +4,7 @@ ghost use Rattle.std.specs.Result.{IfErr};
 ghost use Rattle.o2_disk.specs.Device.{ReadsOnly, SameDevice};
 ghost use Rattle.o2_disk.specs.Image.{Image};
 ghost use Rattle.o2_dir.specs.PathTexts.{IsPath};
-ghost use Rattle.o2_check.specs.Skeleton.{HasSkeleton};
+ghost use Rattle.o2_skeleton.specs.Skeleton.{HasSkeleton};
 ghost use Rattle.o2_debug.specs.Answers.{path_of};
 ghost use Rattle.o2_debug.specs.Commands.{AnswersAt, AnswersSomeAt};
 ghost use Rattle.o2_debug.specs.Devices.{volume_on, IsOn};

@@ -5,7 +5,7 @@ use Rattle.o2_disk.specs.Output.{SinkState, FailsLast}
 use Rattle.o2_model.specs.Image.{Image}
 use Rattle.o2_model.specs.Features.{unsupported_feature}
 use Rattle.o2_model.specs.Volume.{Volume, opened}
-use Rattle.o2_check.specs.Skeleton.{HasSkeleton}
+use Rattle.o2_skeleton.specs.Skeleton.{HasSkeleton}
 use Rattle.o2_cause.specs.Causes.{IsDone, IsRefusal}
 use Rattle.o2_cause.specs.declared.cause.Cause.TheVariants.{DeviceFault}
 use Rattle.o2_debug.specs.Commands.{AnswersAt, AnswersSomeAt}

@@ -7,7 +7,7 @@ use Rattle.o2_model.specs.Superblock.{superblock_bits}
 use Rattle.o2_model.specs.Features.{unsupported_feature}
 use Rattle.o2_model.specs.Volume.{Volume, opened}
 use Rattle.o2_view.specs.OwnChecks.{FailsFirst}
-use Rattle.o2_check.specs.Skeleton.{HasSkeleton, skeleton_checks}
+use Rattle.o2_skeleton.specs.Skeleton.{HasSkeleton, skeleton_checks}
 use Rattle.o2_cause.specs.Causes.{cause_line, IsRefusal}
 use Rattle.o2_cause.specs.Taken.{Takes, TakesSome}
 use Rattle.o2_cause.specs.declared.cause.Cause.{Cause}
