@@ -1,5 +1,5 @@
 -- Entries, one more at a time, and the three parts of what is told of them.
-use Rattle.std.proofs.Common.{◌≡◌, inl, inr, ℕ, ◌+◌, ◌<◌, Bool, true, false, cond, ◌&&◌, ◌||◌, not, ◌==◌, nat_eq, eq-eqb, List, [], ◌∷◌, ◌++◌, map, filter, length, take, get_or, refl, sym, ◌∙◌, ap}
+use Rattle.std.proofs.Common.{◌≡◌, inl, inr, ℕ, ◌+◌, ◌<◌, Bool, true, cond, ◌&&◌, ◌||◌, not, ◌==◌, eq-eqb, List, [], ◌∷◌, ◌++◌, map, filter, length, take, get_or, refl, sym, ◌∙◌, ap, subst}
 use Rattle.std.specs.List.{list_any}
 use Rattle.std.proofs.lemmas.Bool.{cases_Bool}
 use Rattle.std.proofs.lemmas.List.{map-append, take_more}
@@ -15,6 +15,7 @@ use Rattle.o2_model.specs.Checks.Sysfile.{has_system_files, is_sound_system_entr
 use Rattle.o2_model.specs.Orders.{later_like, rising}
 use Rattle.o2_model.specs.Words.{among}
 use Rattle.o2_tally.proofs.Sames.{any_map, any_rising, rising_same}
+use Rattle.o2_survey.proofs.Members.{any_filter}
 
 -- ---- one more
 module _ {A : Type 0} (xs : List A) (i : ℕ) (x : A) (low : i < length xs) (is : x ≡ get_or xs i x) where
@@ -46,8 +47,12 @@ module _ {A : Type 0} (xs : List A) (i : ℕ) (x : A) (low : i < length xs) (is 
         | inr other ↦ rw other refl
       ])))
 
-  pub is_among : (f : A → ℕ) → among (map f xs) (f x) ≡ true
-  is_among f = any_map f (λ m. f x == m) xs ∙ list_any_at (λ y. f x == f y) xs i x low (eq-eqb (f x) (f (get_or xs i x)) (ap f is))
+  pub is_among : (f : A → ℕ) (asked : A → Bool) → asked x ≡ true → among (map f (filter asked xs)) (f x) ≡ true
+  is_among f asked is_asked =
+      let here : ((f x == f x) && asked x) ≡ true = rw (eq-eqb (f x) (f x) refl, is_asked) refl in
+      any_map f (λ m. f x == m) (filter asked xs)
+      ∙ (any_filter asked (λ y. f x == f y) xs
+      ∙ list_any_at (λ y. (f x == f y) && asked y) xs i x low (subst (λ y. ((f x == f y) && asked y) ≡ true) is here))
 
 -- ---- what comes again
 filter_of_map : {A B : Type 0} (f : A → B) (p : B → Bool) (xs : List A) → filter p (map f xs) ≡ map f (filter (λ x. p (f x)) xs)

@@ -1,5 +1,5 @@
 -- A block among those on set bits of groups of inodes.
-use Rattle.std.proofs.Common.{◌≡◌, ℕ, Bool, true, false, List, filter, nat_eq, eq-eqb, sym, ◌∙◌, ap, get_or, Some}
+use Rattle.std.proofs.Common.{◌≡◌, ℕ, true, false, List, filter, nat_eq, eq-eqb, sym, ◌∙◌, ap, get_or, Some}
 use Rattle.std.specs.List.{range_with_len, slice_get}
 use Rattle.std.proofs.lemmas.List.Folds.{list_any_at}
 use Rattle.std.proofs.lemmas.Option.{slice_get_within, get_or_from_slice_get}

@@ -1,5 +1,5 @@
 // SYSFILE: the files of the system directory.
-ghost use Rattle.std.specs.Prelude.{◌≡◌, ◌++◌, ◌==◌, ◌∷◌, ◌&&◌, [], ℕ, List, true, not, map, filter, if◌then◌else◌, IfOk, OnOk};
+ghost use Rattle.std.specs.Prelude.{◌≡◌, ◌++◌, ◌==◌, ◌∷◌, ◌&&◌, [], ℕ, List, true, false, not, map, filter, if◌then◌else◌, IfOk, OnOk};
 ghost use Rattle.std.specs.List.{range_with_len};
 ghost use Rattle.o2_model.specs.declared.check.Check.TheVariants as check;
 ghost use Rattle.o2_model.specs.Directories.{directory_entries, is_dot};
@@ -10,7 +10,7 @@ ghost use Rattle.o2_model.specs.Orders.{rising, later_like};
 ghost use Rattle.o2_model.specs.Volume.{Volume, blocks as blocks_of};
 ghost use Rattle.o2_model.specs.Words.{among};
 ghost use Rattle.o2_model.specs.Checks.Sysfile.{is_sound_system_entry, has_system_files as are_system_files};
-ghost use Rattle.o2_survey.specs.SystemInodes.{AreSystemInodes};
+ghost use Rattle.o2_survey.specs.SystemInodes.{AreSystemInodes, named_by};
 ghost use Rattle.o2_survey.specs.SystemNames.{AreSystemNames};
 
 use crate::present::{has_system_files, is_on_bit};
@@ -39,7 +39,8 @@ fn add_bad_entry(
     blocks: &[u64],
     found: &mut Vec<u64>,
 ) -> Result<(), NoMemory>
-    ensures { OnOk result ((v : Volume) → v.geo ≡ geo.now → (named : List ℕ) → AreSystemInodes v named inodes.now → among named entry.now.inode ≡ true
+    ensures { OnOk result ((v : Volume) → v.geo ≡ geo.now → (named : List ℕ) → AreSystemInodes v named inodes.now
+        → (is_dot entry.now ≡ false → among named entry.now.inode ≡ true)
         → blocks.now ≡ filter (has_inode_bit v) (range_with_len 0 (blocks_of v))
         → found.new.items ≡ found.old.items ++ (if not (is_dot entry.now) && not (is_sound_system_entry v entry.now) then entry.now.inode ∷ [] else [])) }
 {
@@ -57,7 +58,7 @@ fn bad_entries(
     inodes: &SystemInodes,
     blocks: &[u64],
 ) -> Result<Vec<u64>, NoMemory>
-    ensures { IfOk result (λ found. (v : Volume) → v.geo ≡ geo.now → AreSystemInodes v (map (λ e. e.inode) entries.now) inodes.now
+    ensures { IfOk result (λ found. (v : Volume) → v.geo ≡ geo.now → AreSystemInodes v (named_by entries.now) inodes.now
         → blocks.now ≡ filter (has_inode_bit v) (range_with_len 0 (blocks_of v))
         → found.items ≡ fails_at (λ e. e.inode) (is_sound_system_entry v) (filter (λ e. not (is_dot e)) entries.now)) }
 {
@@ -141,7 +142,7 @@ pub fn sysfile(
     blocks: &[u64],
 ) -> Result<Vec<u64>, NoMemory>
     ensures { IfOk result (λ found. (v : Volume) → v.geo ≡ geo.now → entries.now ≡ directory_entries v v.geo.sysdir → AreSystemNames v names.now
-        → AreSystemInodes v (map (λ e. e.inode) entries.now) inodes.now → blocks.now ≡ filter (has_inode_bit v) (range_with_len 0 (blocks_of v))
+        → AreSystemInodes v (named_by entries.now) inodes.now → blocks.now ≡ filter (has_inode_bit v) (range_with_len 0 (blocks_of v))
         → rising found.items ≡ rising (faults v check.Sysfile)) }
 {
     let mut found = where_files_miss(alloc, geo, names, blocks)?;

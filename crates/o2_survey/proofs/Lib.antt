@@ -1,9 +1,11 @@
+pub mod Calls
 pub mod NameMaps
 pub mod FirstNames
 pub mod Rows
 pub mod SlotLists
 pub mod DirtyJournals
 pub mod SystemRows
+pub mod NamedEntries
 pub mod GroupRows
 pub mod GoodGroups
 pub mod Members

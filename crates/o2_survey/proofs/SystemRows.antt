@@ -1,5 +1,5 @@
 -- A map with one number more.
-use Rattle.std.proofs.Common.{◌≡◌, inl, inr, ℕ, Bool, true, false, cond, List, [], ◌∷◌, ◌++◌, ◌||◌, ◌==◌, refl, sym, ◌∙◌, ap, subst, arith, Option, Some, None}
+use Rattle.std.proofs.Common.{◌≡◌, inl, inr, ℕ, Bool, true, false, cond, List, [], ◌∷◌, ◌||◌, ◌==◌, refl, sym, ◌∙◌, ap, subst, arith, Option, Some}
 use Rattle.std.specs.Prelude.{is_some}
 use Rattle.std.specs.Option.{IfSome}
 use Rattle.std.specs.Ordering.{nat_cmp}
@@ -7,10 +7,9 @@ use Rattle.std.specs.BTreeMap.{get}
 use Rattle.std.proofs.lemmas.Bool.{cases_Bool, false≢true}
 use Rattle.std.proofs.lemmas.Bool.Decides.{nat_tests}
 use Rattle.std.proofs.lemmas.List.Folds.{list_any-append}
-use Rattle.std.specs.List.{list_any}
 use Rattle.o2_model.specs.Words.{among, push}
 use Rattle.o2_model.specs.Volume.{Volume, is_in_range}
-use Rattle.o2_survey.specs.SystemInodes.{AreRead, AreSystemInodes, IsSystemInode}
+use Rattle.o2_survey.specs.SystemInodes.{AreSystemInodes, IsSystemInode}
 use Rattle.o2_survey.specs.declared.named_inodes.SystemInodes.{SystemInodes}
 use Rattle.o2_survey.specs.declared.system_inode.SystemInode.{SystemInode}
 

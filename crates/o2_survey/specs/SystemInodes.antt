@@ -1,14 +1,20 @@
 -- Inodes that entries of the system directory name.
-use Rattle.std.specs.Prelude.{◌≡◌, ℕ, true, List, is_some}
+use Rattle.std.specs.Prelude.{◌≡◌, ℕ, true, not, List, map, filter, is_some}
 use Rattle.std.specs.BTreeMap.{get}
 use Rattle.std.specs.Option.{IfSome}
 use Rattle.std.specs.Ordering.{nat_cmp}
+use Rattle.o2_model.specs.declared.entry.Entry.{Entry}
 use Rattle.o2_model.specs.Words.{among}
 use Rattle.o2_model.specs.Volume.{Volume, is_in_range, is_valid, dinode}
+use Rattle.o2_model.specs.Directories.{is_dot}
 use Rattle.o2_model.specs.Inodes.{kind}
 use Rattle.o2_model.specs.RefcountTrees.{has_refcount}
 use Rattle.o2_survey.specs.declared.system_inode.SystemInode.{SystemInode}
 use Rattle.o2_survey.specs.declared.named_inodes.SystemInodes.{SystemInodes}
+
+-- the inodes that these entries name, those of the dots left out
+abbrev pub named_by : List Entry → List ℕ
+named_by es = map (λ e. e.inode) (filter (λ e. not (is_dot e)) es)
 
 -- The row tells what the dinode in the block says.
 pub record IsSystemInode (v : Volume) (b : ℕ) (row : SystemInode) : Type 0 where

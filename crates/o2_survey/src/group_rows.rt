@@ -4,12 +4,14 @@ ghost use Rattle.std.specs.Result.{IfErr};
 ghost use Rattle.o2_model.specs.Volume.{Volume};
 ghost use Rattle.o2_model.specs.ClusterGroups.{group_index, group_size};
 ghost use Rattle.o2_model.specs.Groups.{is_bit_set_in, is_of_clusters};
+ghost use Rattle.o2_model.specs.Structures.{is_discontiguous};
 ghost use Rattle.o2_view.specs.Counted.{CallsAtMost};
 ghost use Rattle.o2_view.specs.Geos.{HasSizes, LiesIn};
 ghost use Rattle.o2_view.specs.OwnChecks.{BlockFails};
 ghost use Rattle.o2_view.specs.Views.{view_state, Shows, OnlyReads};
 ghost use Rattle.o2_tables.specs.Rows.{IsGroupRow};
 
+use crate::discontiguous::says_discontiguous;
 use o2_disk::{Disk, NoMemory};
 use o2_extent::{block_bytes, blocks_per_cluster, is_block_in_range, look};
 use o2_model::{BitUse, Bytes, Geo, Group};
@@ -20,6 +22,13 @@ use std::alloc::Global;
 
 /// Where the bits of a group begin in its block.
 const BITMAP_AT: usize = 0x40;
+
+/// What the block of a group says.
+#[derive(Drop)]
+pub struct GroupReading {
+    pub row: GroupRow,
+    pub is_discontiguous: bool,
+}
 
 /// Whether it is a group of the global bitmap.
 fn is_of_bitmap(group: &Group) -> bool
@@ -88,17 +97,18 @@ fn row_in(alloc: Global, geo: &Geo, group: Group, bytes: &[u8]) -> Result<GroupR
     })
 }
 
-/// The row of the group, whose block is read. NoMemory too where the block is not in range or has no room for the group's bits,
+/// What the group's block says, which is read. NoMemory too where the block is not in range or has no room for the group's bits,
 /// so that no volume has the group.
-pub fn row_of<D: Disk, const N: usize>(
+pub fn read_group<D: Disk, const N: usize>(
     alloc: Global,
     view: &mut View<'_, D, N>,
     geo: &Geo,
     group: Group,
-) -> Result<GroupRow, ViewFault>
+) -> Result<GroupReading, ViewFault>
     requires { LiesIn geo.now view.old }
-    ensures of { IfOk result (λ row. row.group ≡ group) }
-    ensures row { IfOk result (λ row. (v : Volume) → Shows view.old geo.now v → IsGroupRow v row) }
+    ensures of { IfOk result (λ reading. reading.row.group ≡ group) }
+    ensures row { IfOk result (λ reading. (v : Volume) → Shows view.old geo.now v → IsGroupRow v reading.row) }
+    ensures discontiguous { IfOk result (λ reading. (v : Volume) → Shows view.old geo.now v → reading.is_discontiguous ≡ is_discontiguous v group.block) }
     ensures count { CallsAtMost 1 (view_state view.old) (view_state view.new) }
     ensures reads { OnlyReads view.old view.new }
     ensures fails { IfErr result (BlockFails view.old view.new) }
@@ -107,5 +117,9 @@ pub fn row_of<D: Disk, const N: usize>(
         return Err(ViewFault::NoMemory);
     }
     let block = look(view, geo, group.block)?;
-    Ok(row_in(alloc, geo, group, block.as_slice())?)
+    let row = row_in(alloc, geo, group, block.as_slice())?;
+    Ok(GroupReading {
+        row,
+        is_discontiguous: says_discontiguous(block.as_slice()),
+    })
 }

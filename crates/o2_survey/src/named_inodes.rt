@@ -1,20 +1,22 @@
-// The inodes that entries of the system directory name, each read once.
-ghost use Rattle.std.specs.Prelude.{◌≡◌, ◌==◌, ◌^◌, ◌≤◌, ℕ, List, true, false, length, map, Some, if◌then◌else◌, IfOk, OnOk, MatchOption};
+// The inodes that entries of the system directory but the dots name, each read once.
+ghost use Rattle.std.specs.Prelude.{◌≡◌, ◌==◌, ◌^◌, ◌≤◌, ℕ, List, true, false, length, Some, if◌then◌else◌, IfOk, OnOk, MatchOption};
 ghost use Rattle.std.specs.BTreeMap.{get};
 ghost use Rattle.std.specs.Option.{IfSome};
 ghost use Rattle.std.specs.Ordering.{nat_cmp};
 ghost use Rattle.std.specs.Result.{IfErr};
+ghost use Rattle.o2_model.specs.Directories.{is_dot};
 ghost use Rattle.o2_model.specs.Words.{push};
 ghost use Rattle.o2_model.specs.Volume.{Volume, is_in_range};
 ghost use Rattle.o2_view.specs.Counted.{CallsAtMost};
 ghost use Rattle.o2_view.specs.Geos.{HasSizes, LiesIn, Reaches};
 ghost use Rattle.o2_view.specs.OwnChecks.{BlockFails};
 ghost use Rattle.o2_view.specs.Views.{view_state, Shows, OnlyReads};
-ghost use Rattle.o2_survey.specs.SystemInodes.{AreRead, AreSystemInodes};
+ghost use Rattle.o2_survey.specs.SystemInodes.{AreRead, AreSystemInodes, named_by};
 
 use crate::SystemNames;
 use crate::roles::inodes_with_roles;
 use crate::system_inode::{SystemInode, system_inode_in};
+use o2_dir::is_dot_entry;
 use o2_disk::{Disk, NoMemory};
 use o2_extent::{block_bytes, is_block_in_range, look};
 use o2_model::{Entry, Geo};
@@ -82,6 +84,7 @@ fn add_inode<D: Disk, const N: usize>(
     requires { LiesIn geo.now view.old }
     ensures added { OnOk result ((v : Volume) → Shows view.old geo.now v → (named : List ℕ)
         → AreSystemInodes v named inodes.old → AreSystemInodes v (push named b) inodes.new) }
+    ensures count { CallsAtMost 1 (view_state view.old) (view_state view.new) }
     ensures reads { OnlyReads view.old view.new }
     ensures fails { IfErr result (BlockFails view.old view.new) }
 {
@@ -93,8 +96,32 @@ fn add_inode<D: Disk, const N: usize>(
     Ok(())
 }
 
-/// The inodes that these entries of the system directory name: each is read once, however often it is named. The blocks of
-/// allocators, journals and the slot map are kept. NoMemory where memory runs out, DeviceFault where a read fails.
+/// Adds the inode that the entry names, unless it is a dot.
+fn add_entry<D: Disk, const N: usize>(
+    view: &mut View<'_, D, N>,
+    geo: &Geo,
+    roles: &BTreeSet<u64>,
+    entry: &Entry,
+    inodes: &mut SystemInodes,
+) -> Result<(), ViewFault>
+    requires { LiesIn geo.now view.old }
+    ensures dot { OnOk result (is_dot entry.now ≡ true → inodes.new ≡ inodes.old) }
+    ensures added { OnOk result ((v : Volume) → Shows view.old geo.now v → is_dot entry.now ≡ false → (named : List ℕ)
+        → AreSystemInodes v named inodes.old → AreSystemInodes v (push named entry.now.inode) inodes.new) }
+    ensures count { CallsAtMost (if is_dot entry.now then 0 else 1) (view_state view.old) (view_state view.new) }
+    ensures reads { OnlyReads view.old view.new }
+    ensures fails { IfErr result (BlockFails view.old view.new) }
+{
+    if is_dot_entry(entry) {
+        return Ok(());
+    }
+    add_inode(view, geo, roles, entry.inode, inodes)?;
+    Ok(())
+}
+
+/// The inodes that these entries of the system directory but the dots name: each is read once, however often it is named. The
+/// blocks of allocators, journals, local allocs, truncate logs and the slot map are kept. NoMemory where memory runs out,
+/// DeviceFault where a read fails.
 pub fn system_inodes<D: Disk, const N: usize>(
     alloc: Global,
     view: &mut View<'_, D, N>,
@@ -103,7 +130,8 @@ pub fn system_inodes<D: Disk, const N: usize>(
     entries: &[Entry],
 ) -> Result<SystemInodes, ViewFault>
     requires { LiesIn geo.now view.old }
-    ensures told { IfOk result (λ inodes. (v : Volume) → Shows view.old geo.now v → AreSystemInodes v (map (λ e. e.inode) entries.now) inodes) }
+    ensures told { IfOk result (λ inodes. (v : Volume) → Shows view.old geo.now v → AreSystemInodes v (named_by entries.now) inodes) }
+    ensures count { CallsAtMost (length (named_by entries.now)) (view_state view.old) (view_state view.new) }
     ensures reads { OnlyReads view.old view.new }
     ensures fails { IfErr result (BlockFails view.old view.new) }
 {
@@ -113,7 +141,7 @@ pub fn system_inodes<D: Disk, const N: usize>(
         blocks: BTreeMap::new(alloc),
     };
     for entry in entries {
-        add_inode(view, geo, &roles, entry.inode, &mut inodes)?;
+        add_entry(view, geo, &roles, entry, &mut inodes)?;
     }
     Ok(inodes)
 }
@@ -122,7 +150,7 @@ impl SystemInodes {
     ghost use Rattle.o2_model.specs.Words.{among};
     ghost use Rattle.o2_survey.specs.SystemInodes.{IsSystemInode};
 
-    /// What the dinode of the inode says. None where it is out of range, or no entry names it.
+    /// What the dinode of the inode says. None where it is out of range, or no entry but a dot names it.
     pub fn row_of(&self, b: u64) -> Option<SystemInode>
         ensures row { result ≡ get nat_cmp self.now.rows b }
         ensures told { (v : Volume) (named : List ℕ) → AreSystemInodes v named self.now → among named b ≡ true

@@ -18,7 +18,8 @@ fn add_file(
     Ok(())
 }
 
-/// The inodes of the allocators, the journals and the slot map, at most three for each slot and three more.
+/// The inodes of the allocators, the journals, the local allocs, the truncate logs and the slot map, at most five for each slot
+/// and three more.
 pub fn inodes_with_roles(
     alloc: Global,
     geo: &Geo,
@@ -33,6 +34,8 @@ pub fn inodes_with_roles(
             SlotFile::ExtentAlloc,
             SlotFile::InodeAlloc,
             SlotFile::Journal,
+            SlotFile::LocalAlloc,
+            SlotFile::TruncateLog,
         ] {
             add_file(names, SystemFile::OfSlot(file, slot), &mut inodes)?;
         }

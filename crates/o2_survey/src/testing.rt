@@ -39,7 +39,8 @@ pub fn numbers() -> Geo
 }
 
 // What each entry of the system directory names, in order.
-const NAMED: [(&str, u64); 10] = [
+const NAMED: [(&str, u64); 12] = [
+    (".", 34),
     ("journal:0001", 51),
     ("inode_alloc:0000", 44),
     ("global_bitmap", 40),
@@ -50,6 +51,7 @@ const NAMED: [(&str, u64); 10] = [
     ("global_inode_alloc", 42),
     ("journal:0000", 50),
     ("slot_map", 46),
+    ("orphan_dir:0000", 52),
 ];
 
 // A live entry of that directory.

@@ -6,8 +6,8 @@ use crate::testing::{
     system_names,
 };
 use crate::{
-    SystemInode, SystemInodes, SystemNames, allocators, dirty_journals, journals, own_inodes,
-    system_inodes,
+    SystemInode, SystemInodes, SystemNames, allocators, dirty_journals, journals,
+    orphan_directories, own_inodes, system_inodes,
 };
 use o2_disk::{Disk, How, MemDisk};
 use o2_model::{Allocator, BitUse, SlotFile, SystemFile};
@@ -37,6 +37,17 @@ fn tells_journals_by_slots(rt: HostRuntime) -> Result<(), Fail> {
     assert_eq!(rt; found.len(), 2);
     assert_eq!(rt; found[0], 50);
     assert_eq!(rt; found[1], 51);
+    Ok(())
+}
+
+// Slot 1 has none.
+#[test]
+fn tells_orphan_directories(rt: HostRuntime) -> Result<(), Fail> {
+    let alloc = rt.alloc();
+    let names = system_names(alloc)?;
+    let found = orphan_directories(alloc, &numbers(), &names)?;
+    assert_eq!(rt; found.len(), 1);
+    assert_eq!(rt; found[0], 52);
     Ok(())
 }
 
@@ -132,7 +143,7 @@ fn tells_dirty_journals(rt: HostRuntime) -> Result<(), Fail> {
     Ok(())
 }
 
-// Inode 51 is named once, 41 twice, and block 28992 is out of range.
+// Inode 51 is named once, 41 twice, 34 by a dot alone, and block 28992 is out of range.
 #[test]
 fn tells_inodes_that_are_named(rt: HostRuntime) -> Result<(), Fail> {
     let alloc = rt.alloc();
@@ -149,6 +160,7 @@ fn tells_inodes_that_are_named(rt: HostRuntime) -> Result<(), Fail> {
     };
     assert!(rt; inodes.row_of(51) == Some(told));
     assert!(rt; inodes.row_of(41).is_some());
+    assert!(rt; inodes.row_of(34).is_none());
     assert!(rt; inodes.row_of(28992).is_none());
     Ok(())
 }

@@ -1,6 +1,5 @@
 -- Names that are too short, or that end with too great a number.
-use Rattle.std.proofs.Common.{◌≡◌, ◌-◌, ◌<◌, ◌≤◌, length, drop, arith}
-use Rattle.o2_model.specs.SystemFiles.{decimal_number}
+use Rattle.std.proofs.Common.{◌≤◌, arith}
 use Rattle.o2_judges_system.proofs.SlotNames.{short_is_none, many_are_none}
 use Rattle.o2_judges_system.proofs.slot_names.slot_in_name.Goals as goal
 

@@ -1,12 +1,5 @@
 -- The three parts.
-use Rattle.std.proofs.Common.{◌≡◌, ◌++◌, ◌==◌, List, ℕ, map, not, filter, sym, ◌∙◌, ap}
-use Rattle.o2_model.specs.declared.check.Check.TheVariants as check
-use Rattle.o2_model.specs.declared.entry.Entry.{Entry}
-use Rattle.o2_model.specs.Directories.{is_dot}
-use Rattle.o2_model.specs.Orders.{later_like, rising}
-use Rattle.o2_model.specs.Faults.{fails_at, fails_unless}
-use Rattle.o2_model.specs.Volume.{Volume}
-use Rattle.o2_model.specs.Checks.Sysfile.{has_system_files, is_sound_system_entry, system_entries}
+use Rattle.std.proofs.Common.{◌++◌, List, ℕ, ◌∙◌, ap}
 use Rattle.o2_judges_system.proofs.Entries.{sysfile_parts}
 use Rattle.o2_judges_system.proofs.whole.sysfile.Goals as goal
 

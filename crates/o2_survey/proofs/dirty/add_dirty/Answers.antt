@@ -1,5 +1,5 @@
 -- A journal in range that is dirty.
-use Rattle.std.proofs.Common.{◌++◌, ◌∷◌, [], cond, ◌&&◌, ap, sym, ◌∙◌}
+use Rattle.std.proofs.Common.{ap, sym, ◌∙◌}
 use Rattle.std.proofs.lemmas.Result.{on_ok_weaker}
 use Rattle.o2_ondisk.specs.Bits.{has_bits, dirty_journal_flag}
 use Rattle.o2_model.specs.Volume.{is_in_range}
