@@ -1,0 +1,3 @@
+pub mod ClusterRows
+pub mod LinkRows
+pub mod OrphanRows

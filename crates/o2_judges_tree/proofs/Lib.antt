@@ -1,0 +1,2 @@
+pub mod DotsTold
+pub mod EntriesTold

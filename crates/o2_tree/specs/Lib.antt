@@ -1,0 +1,2 @@
+pub mod TreeRows
+pub mod TreeWalks

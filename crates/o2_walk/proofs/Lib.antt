@@ -1,0 +1,4 @@
+pub mod LevelsMet
+pub mod LinksCounted
+pub mod MetInodes
+pub mod RowsMet
