@@ -1,4 +1,5 @@
 pub mod FirstOwners
+pub mod FirstBetween
 pub mod Gaps
 pub mod Keys
 pub mod Numbers

@@ -3,6 +3,7 @@ ghost use Rattle.std.specs.Prelude.{◌<◌, ◌^◌};
 ghost use Rattle.o2_claims.specs.Keys.{LieBelow};
 
 mod asked;
+mod between;
 mod free;
 mod taken;
 

@@ -20,6 +20,10 @@ fn a_cluster_keeps_its_first_owner(rt: HostRuntime) -> Result<(), Fail> {
     assert_eq!(rt; claims.owner(3), None);
     assert_eq!(rt; claims.owner(8), None);
     assert_eq!(rt; claims.count(), 2);
+    assert_eq!(rt; claims.clusters(), 8);
+    assert!(rt; claims.has_owner_between(1, 3));
+    assert!(rt; !claims.has_owner_between(3, 7));
+    assert!(rt; !claims.has_owner_between(2, 2));
     Ok(())
 }
 

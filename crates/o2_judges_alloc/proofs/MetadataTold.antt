@@ -102,7 +102,7 @@ tree_is v t is =
     ap (λ bs. t.root.block ∷ bs ++ map (λ x. x.block) t.leaves) is.extent_blocks.listed
     ∙ ap (λ bs. t.root.block ∷ (leaf_list v t.root.block).blocks ++ bs) is.named
 
-uses_are : (v : Volume) (inodes : List InodeRow) (trees : List RefcountTreeRow) → IsInodeTable v inodes → IsRefcountTreeTable v trees → uses_of inodes trees ≡ metadata_blocks v
+pub uses_are : (v : Volume) (inodes : List InodeRow) (trees : List RefcountTreeRow) → IsInodeTable v inodes → IsRefcountTreeTable v trees → uses_of inodes trees ≡ metadata_blocks v
 unfolding metadata_blocks list_blocks refcount_blocks
 uses_are v inodes trees first second =
     ap (λ bs. bs ++ flat_map blocks_of_tree trees) (flat_rows (λ r. r.block) blocks_of_lists (extent_blocks_of v) inodes (inodes_of v) first.inodes (each_is (λ r is. is.extent_blocks.listed) inodes first.each))

@@ -9,8 +9,8 @@ ghost use Rattle.o2_tables.specs.Rows.{IsGroupTable, IsInodeTable, IsRefcountTre
 ghost use Rattle.o2_tally.specs.Gathered.{IsCount};
 ghost use Rattle.o2_judges_alloc.specs.MetadataRows.{is_sound_use};
 
+use crate::block_uses::metadata_uses;
 use crate::given_blocks::given_blocks;
-use crate::metadata_uses::metadata_uses;
 use o2_disk::NoMemory;
 use o2_tables::{GroupRow, InodeRow, RefcountTreeRow};
 use o2_tally::Counts;

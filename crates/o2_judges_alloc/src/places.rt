@@ -7,7 +7,7 @@ use o2_extent::{block_bytes, blocks_per_cluster};
 use o2_model::Geo;
 
 /// The clusters of one group of the global bitmap.
-fn group_size(geo: &Geo) -> u64
+pub fn group_size(geo: &Geo) -> u64
     requires { HasSizes geo.now }
     ensures size { result ≡ cluster_groups.group_size (bare geo.now) }
     ensures some { 3584 ≤ result }

@@ -9,6 +9,14 @@ use crate::Claims;
 use o2_model::Owner;
 
 impl Claims {
+    /// How many clusters the volume has.
+    #[tactic(auto, unfolding(crate::specs::Owners::clusters_of))]
+    pub fn clusters(&self) -> u32
+        ensures { result ≡ clusters_of self.now }
+    {
+        self.clusters
+    }
+
     /// The owner of the cluster. None from the number of clusters on too.
     #[tactic(auto, unfolding(crate::specs::Owners::clusters_of, crate::specs::Owners::owner_of))]
     pub fn owner(&self, cluster: u32) -> Option<Owner>

@@ -1,0 +1,12 @@
+-- The claims of the rows so far were added.
+use Rattle.std.proofs.Common.{◌≡◌, flat_map, take}
+use Rattle.o2_claims.specs.Owners.{clusters_of}
+use Rattle.o2_judges_claims.specs.Adding.{AddsClaims}
+use Rattle.o2_judges_claims.specs.ClaimRows.{row_claims}
+use Rattle.o2_judges_claims.proofs.inodes.claim_rows.Given as goal
+
+abbrev pub invariant-loop-row : goal.invariant-loop-row
+invariant-loop-row l = record {
+  clusters : clusters_of l.claims ≡ clusters_of l.fn.claims;
+  owners : AddsClaims (flat_map row_claims (take l.row-index l.inodes)) l.fn.claims l.claims;
+}

@@ -1,0 +1,14 @@
+-- One backup more.
+use Rattle.std.proofs.Common.{◌+◌, ◌-◌, ◌*◌, ◌^◌, ◌∙◌}
+use Rattle.o2_model.specs.declared.claim.Owner.TheVariants.{Backup}
+use Rattle.o2_judges_claims.proofs.Addings.{adds_next}
+use Rattle.o2_judges_claims.proofs.ClaimsTold.{next_kept}
+use Rattle.o2_judges_claims.proofs.structures.claim_backups.Goals as goal
+
+pub loop-k-preserved : goal.loop-k-preserved
+loop-k-preserved c = record {
+  clusters = c.claim_backup.ensures.clusters ∙ c.loop-k.invariant.clusters;
+  owners =
+      adds_next _ _ _ _ _ _ (next_kept Backup c.args.geo.now.clusters (λ k. 2 ^ (30 + 2 * k - c.args.geo.now.cluster_bits)) c.loop-k.k) c.loop-k.invariant.owners
+      c.in_ok-claim_backup.ensures.owners;
+}

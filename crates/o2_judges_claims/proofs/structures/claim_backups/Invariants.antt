@@ -1,0 +1,14 @@
+-- The claims of the backups so far were added.
+use Rattle.std.proofs.Common.{◌≡◌, ◌+◌, ◌*◌, ◌-◌, ◌^◌, nat_lt, map, filter}
+use Rattle.std.specs.List.{range_with_len}
+use Rattle.o2_model.specs.declared.claim.Owner.TheVariants.{Backup}
+use Rattle.o2_model.specs.Claims.{claims_by}
+use Rattle.o2_claims.specs.Owners.{clusters_of}
+use Rattle.o2_judges_claims.specs.Adding.{AddsClaims}
+use Rattle.o2_judges_claims.proofs.structures.claim_backups.Given as goal
+
+abbrev pub invariant-loop-k : goal.invariant-loop-k
+invariant-loop-k l = record {
+  clusters : clusters_of l.claims ≡ clusters_of l.fn.claims;
+  owners : AddsClaims (claims_by Backup (filter (λ c. nat_lt c l.geo.clusters) (map (λ k. 2 ^ (30 + 2 * k - l.geo.cluster_bits)) (range_with_len 0 l.k)))) l.fn.claims l.claims;
+}

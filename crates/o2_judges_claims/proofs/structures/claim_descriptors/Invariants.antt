@@ -1,0 +1,17 @@
+-- The claims of the descriptors so far were added.
+use Rattle.std.proofs.Common.{◌≡◌, ◌+◌, ◌≤◌, ◌*◌, ◌-◌, map}
+use Rattle.std.specs.List.{range_with_len}
+use Rattle.o2_model.specs.declared.claim.Owner.TheVariants.{GlobalGroup}
+use Rattle.o2_model.specs.ClusterGroups.{group_size}
+use Rattle.o2_model.specs.Claims.{claims_by}
+use Rattle.o2_view.specs.Geos.{bare}
+use Rattle.o2_claims.specs.Owners.{clusters_of}
+use Rattle.o2_judges_claims.specs.Adding.{AddsClaims}
+use Rattle.o2_judges_claims.proofs.structures.claim_descriptors.Given as goal
+
+abbrev pub invariant-loop-i : goal.invariant-loop-i
+invariant-loop-i l = record {
+  clusters : clusters_of l.claims ≡ clusters_of l.fn.claims;
+  within : l.i ≤ 1 + (l.count - 1);
+  owners : AddsClaims (claims_by GlobalGroup (map (λ i. i * group_size (bare l.geo)) (range_with_len 1 (l.i - 1)))) l.fn.claims l.claims;
+}

@@ -1,0 +1,2 @@
+pub mod IndexRows
+pub mod Judgements
