@@ -1,5 +1,5 @@
 -- The blocks of a directory, also where something is wrong with it.
-use Rattle.std.proofs.Common.{◌≡◌, ℕ, ◌-◌, ◌/◌, ◌^◌, ◌<◌, ◌≤◌, Bool, true, false, cond, List, [], ◌∷◌, ◌++◌, map, length, take, drop, sym, ◌∙◌, ap, subst, arith, Option, None, unwrap_or}
+use Rattle.std.proofs.Common.{◌≡◌, ℕ, ◌-◌, ◌/◌, ◌^◌, ◌<◌, ◌≤◌, Bool, true, false, cond, List, [], ◌∷◌, ◌++◌, map, length, take, drop, refl, sym, ◌∙◌, ap, subst, arith, Option, None, unwrap_or}
 use Rattle.std.specs.Prelude.{nat_le}
 use Rattle.std.proofs.lemmas.List.{append-nil}
 use Rattle.std.proofs.lemmas.Bool.Decides.{nat_tests}
@@ -54,23 +54,19 @@ inline_unread v d size bytes old new holds long tells room kept one same =
     (same ∙ (sym (append-nil old.entries.items) ∙ ap (λ (o : Option (List NamedEntry)). old.entries.items ++ live_from d 0 (unwrap_or o [])) (sym none)))
     kept
 
-pub inline_blocks : (v : Volume) (d : ℕ) (reading : Reading) → is_inline v d ≡ true → Keeps reading (inline_block v d ∷ []) → Keeps reading (dir_blocks v d)
+pub blocks_inside : (v : Volume) (d : ℕ) → is_inline v d ≡ true → dir_blocks v d ≡ inline_block v d ∷ []
 unfolding dir_blocks
-inline_blocks v d reading inside kept = rw inside kept
+blocks_inside v d inside = rw inside refl
 
 -- ---- mapped blocks
-mapped_are : (v : Volume) (d size : ℕ) (leaves : List Leaf) → is_inline v d ≡ false → size ≡ (dinode v d).size → leaves ≡ leaf_records v d
+pub blocks_mapped : (v : Volume) (d size : ℕ) (leaves : List Leaf) → is_inline v d ≡ false → size ≡ (dinode v d).size → leaves ≡ leaf_records v d
     → map (block_at_place v) (places_of (per_cluster v) (size / block_size v) leaves) ≡ dir_blocks v d
 unfolding dir_blocks
-mapped_are v d size leaves outside tells are =
+blocks_mapped v d size leaves outside tells are =
     rw outside
     (ap (λ (ls : List Leaf). map (block_at_place v) (places_of (per_cluster v) (size / block_size v) ls)) are
     ∙ (ap (λ n. map (block_at_place v) (places_of (per_cluster v) (n / block_size v) (leaf_records v d))) tells
     ∙ sym (mapped_all v ((dinode v d).size / block_size v) (leaf_records v d))))
-
-pub mapped_blocks : (v : Volume) (d size : ℕ) (leaves : List Leaf) (reading : Reading) → is_inline v d ≡ false → size ≡ (dinode v d).size → leaves ≡ leaf_records v d
-    → Keeps reading (map (block_at_place v) (places_of (per_cluster v) (size / block_size v) leaves)) → Keeps reading (dir_blocks v d)
-mapped_blocks v d size leaves reading outside tells are kept = subst (λ (bs : List DirBlock). Keeps reading bs) (mapped_are v d size leaves outside tells are) kept
 
 -- ---- what a reader is told of the dinode
 pub inline_told : (bytes at : List ℕ) (d : Dinode) (told_of is : Bool) → bytes ≡ at → d ≡ dinode_of bytes → told_of ≡ has_bits d.dyn_features.0 inline_data_dyn_feature → told_of ≡ is → has_bits (dinode_of at).dyn_features.0 inline_data_dyn_feature ≡ is

@@ -1,13 +1,11 @@
 -- The inodes that the system directory names.
-use Rattle.std.proofs.Common.{◌≡◌, inl, inr, ℕ, zero, suc, ◌<◌, Bool, true, false, ◌||◌, not, ◌==◌, List, [], ◌∷◌, map, filter, flat_map, get_or, length, refl, sym, ◌∙◌, ap, arith}
+use Rattle.std.proofs.Common.{◌≡◌, inl, inr, ℕ, zero, suc, ◌<◌, Bool, true, false, ◌||◌, not, ◌==◌, List, [], ◌∷◌, map, filter, get_or, length, refl, sym, ◌∙◌, ap, arith}
 use Rattle.std.proofs.lemmas.Bool.{cases_Bool, or_left, or_right, eq-eqb}
 use Rattle.std.proofs.lemmas.Bool.Decides.{nat_tests}
 use Rattle.o2_model.specs.Words.{among}
 use Rattle.o2_model.specs.Volume.{Volume}
-use Rattle.o2_model.specs.Directories.{is_dot, dir_blocks, directory_entries, entries_of_block, own_inodes}
-use Rattle.o2_dir.specs.Blocks.{Keeps}
+use Rattle.o2_model.specs.Directories.{is_dot, directory_entries, own_inodes}
 use Rattle.o2_model.specs.declared.entry.Entry.{Entry}
-use Rattle.o2_dir.specs.declared.reading.Reading.{Reading}
 
 -- whether one of these entries that is no dot names the inode
 abbrev pub names : List Entry → ℕ → Bool
@@ -33,10 +31,9 @@ or_none : (a b : Bool) → a ≡ false → (a || b) ≡ b
 or_none true b h = cc
 or_none false b h = refl
 
--- so the entries that were read say it of any other inode
-pub others_are_named : (v : Volume) (n : ℕ) (reading : Reading) → (n ≡ v.geo.sysdir → ⊥) → Keeps reading (dir_blocks v v.geo.sysdir) → names reading.entries.items n ≡ among (own_inodes v) n
-unfolding own_inodes directory_entries
-others_are_named v n reading differs kept =
+-- so the entries of the system directory say it of any other inode
+pub others_are_named : (v : Volume) (n : ℕ) (es : List Entry) → (n ≡ v.geo.sysdir → ⊥) → es ≡ directory_entries v v.geo.sysdir → names es n ≡ among (own_inodes v) n
+unfolding own_inodes
+others_are_named v n es differs are =
     let other : (n == v.geo.sysdir) ≡ false = differ n v.geo.sysdir differs in
-    ap (λ es. names es n) kept.entries
-    ∙ sym (or_none (n == v.geo.sysdir) (names (flat_map entries_of_block (dir_blocks v v.geo.sysdir)) n) other)
+    ap (λ es. names es n) are ∙ sym (or_none (n == v.geo.sysdir) (names (directory_entries v v.geo.sysdir) n) other)

@@ -7,10 +7,11 @@ ghost use Rattle.o2_view.specs.OwnChecks.{BlockFails};
 ghost use Rattle.o2_model.specs.Words.{push};
 ghost use Rattle.o2_model.specs.Directories.{DirBlock};
 ghost use Rattle.o2_model.specs.Volume.{Volume};
-ghost use Rattle.o2_dir.specs.Blocks.{Keeps, block_at_place};
+ghost use Rattle.o2_dir.specs.Blocks.{block_at_place};
+ghost use Rattle.o2_dir.specs.WholeDirectories.{KeepsWhole};
 
 use crate::places::Place;
-use crate::reading::{Reading, add_block, start};
+use crate::whole_reading::{WholeReading, add_whole_block, start_whole};
 use o2_disk::Disk;
 use o2_extent::look;
 use o2_model::Geo;
@@ -23,16 +24,16 @@ fn read_place<D: Disk, const N: usize>(
     view: &mut View<'_, D, N>,
     geo: &Geo,
     p: &Place,
-    reading: &mut Reading,
+    whole: &mut WholeReading,
 ) -> Result<(), ViewFault>
     requires inside { Reaches geo.now view.old p.now.block }
-    ensures read { OnOk result ((v : Volume) → Shows view.old geo.now v → (bs : List DirBlock) → Keeps reading.old bs
-        → Keeps reading.new (push bs (block_at_place v p.now))) }
+    ensures read { OnOk result ((v : Volume) → Shows view.old geo.now v → (bs : List DirBlock) → KeepsWhole (λ b. v.at b.block) whole.old bs
+        → KeepsWhole (λ b. v.at b.block) whole.new (push bs (block_at_place v p.now))) }
     ensures reads { OnlyReads view.old view.new }
     ensures fails { IfErr result (BlockFails view.old view.new) }
 {
     let block = look(view, geo, p.block)?;
-    add_block(alloc, block.as_slice(), p.place, p.block, reading)?;
+    add_whole_block(alloc, block.as_slice(), p.place, p.block, whole)?;
     Ok(())
 }
 
@@ -42,17 +43,17 @@ pub fn read_places<D: Disk, const N: usize>(
     view: &mut View<'_, D, N>,
     geo: &Geo,
     places: &[Place],
-) -> Result<Reading, ViewFault>
+) -> Result<WholeReading, ViewFault>
     requires geo { LiesIn geo.now view.old }
     requires inside { All (λ p. p.block < view_blocks view.old) places.now }
-    ensures read { IfOk result (λ reading. (v : Volume) → Shows view.old geo.now v
-        → Keeps reading (map (block_at_place v) places.now)) }
+    ensures read { IfOk result (λ whole. (v : Volume) → Shows view.old geo.now v
+        → KeepsWhole (λ b. v.at b.block) whole (map (block_at_place v) places.now)) }
     ensures reads { OnlyReads view.old view.new }
     ensures fails { IfErr result (BlockFails view.old view.new) }
 {
-    let mut reading = start(alloc);
+    let mut whole = start_whole(alloc);
     for p in places {
-        read_place(alloc, view, geo, p, &mut reading)?;
+        read_place(alloc, view, geo, p, &mut whole)?;
     }
-    Ok(reading)
+    Ok(whole)
 }

@@ -32,7 +32,7 @@ const ROOT_LIST: usize = 0xc0;
 
 /// The index entries in the root of an index that has these bytes, or those of its leaves, which lie under these records. None
 /// where one is no leaf of an index, or its list is not well formed.
-fn entries_in_root<D: Disk, const N: usize>(
+pub fn entries_in_root<D: Disk, const N: usize>(
     alloc: Global,
     view: &mut View<'_, D, N>,
     geo: &Geo,

@@ -5,6 +5,7 @@ mod blocks;
 mod data_inode;
 mod directory;
 mod directory_blocks;
+mod directory_whole;
 mod dots;
 mod entries_in_block;
 mod fault;
@@ -29,14 +30,17 @@ mod reading;
 mod route;
 #[cfg(test)]
 mod testing;
+mod trailer;
 mod void_plan;
+mod whole_reading;
 
 pub use data_inode::{has_bytes, is_of_file_or_link, is_valid_dinode};
 pub use directory::{entries, entries_in, entries_of};
+pub use directory_whole::{WholeDirectory, whole_directory};
 pub use fault::{DirFault, PathFault};
 pub use file_bytes::{part_of_file, read_bytes};
 pub use file_size::{ends_in_numbered, has_size_of_kind};
-pub use index::{IndexEntries, index_entries};
+pub use index::{IndexEntries, entries_in_root, index_entries};
 pub use inode_reading::{InodeReading, sound_inode_in};
 pub use kinds::{is_of_directory, is_of_file};
 pub use names::{look_up, system_file};

@@ -73,6 +73,6 @@ pub fn mapped<D: Disk, const N: usize>(
             block: inode,
         });
     }
-    let reading = read_places(alloc, view, geo, places.as_slice())?;
-    settle(reading)
+    let whole = read_places(alloc, view, geo, places.as_slice())?;
+    settle(whole.reading)
 }

@@ -10,8 +10,9 @@ ghost use Rattle.o2_model.specs.Directories.{is_dot, own_inodes};
 ghost use Rattle.o2_model.specs.Volume.{Volume};
 
 use crate::Entry;
-use crate::directory_blocks::read_blocks;
+use crate::directory_whole::whole_directory;
 use o2_disk::Disk;
+use o2_extent::read_inode;
 use o2_model::Geo;
 use o2_view::{View, ViewFault};
 use std::alloc::Global;
@@ -52,6 +53,9 @@ pub fn is_own<D: Disk, const N: usize>(
     if inode == geo.sysdir {
         return Ok(true);
     }
-    let reading = read_blocks(alloc, view, geo, geo.sysdir)?;
-    Ok(are_naming(&reading.entries, inode))
+    let found = read_inode(alloc, view, geo, geo.sysdir)?;
+    let bytes = found.block.as_slice();
+    let leaves = &found.reading.leaves;
+    let directory = whole_directory(alloc, view, geo, geo.sysdir, bytes, leaves)?;
+    Ok(are_naming(directory.entries.as_slice(), inode))
 }

@@ -1,5 +1,5 @@
 -- What is read of an index root or of a refcount root, by what its fields say.
-use Rattle.std.proofs.Common.{◌≡◌, inl, inr, ℕ, suc, ◌-◌, ◌/◌, Bool, ◌&&◌, true, false, ◌==◌, List, [], ◌∷◌, length, refl, arith, Some, None}
+use Rattle.std.proofs.Common.{◌≡◌, inl, inr, ℕ, suc, ◌-◌, ◌/◌, Bool, ◌&&◌, not, true, false, ◌==◌, List, [], ◌∷◌, length, refl, arith, Some, None}
 use Rattle.std.proofs.lemmas.Bool.{cases_Bool}
 use Rattle.std.proofs.lemmas.Bool.Decides.{nat_tests}
 use Rattle.o2_ondisk.specs.DxRoots.{dx_root_list_place}
@@ -37,6 +37,11 @@ pub leaves_by_list : (v : Volume) (b : ℕ) → is_some_index_root v b ≡ true 
     → where_sound (is_none_of faults) leaves ≡ where_sound (is_sound_index_root v b) (index_list v b).leaves
 unfolding is_sound_index_root index_list
 leaves_by_list v b is outside leaves faults same none = rw (is, outside, same, none) refl
+
+-- a block that is no index root, or whose index entries stand in it, has no list of leaves
+pub no_leaves : (v : Volume) (b : ℕ) → (is_some_index_root v b && not (is_inline_index v b)) ≡ false → index_list v b ≡ nothing_read
+unfolding index_list
+no_leaves v b none = rw none refl
 
 names_directory : (v : Volume) (d b : ℕ) → is_index_root v d b ≡ true → (dx_root v b).dir_blkno ≡ d
 unfolding is_index_root

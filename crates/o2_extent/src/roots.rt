@@ -52,7 +52,7 @@ pub fn has_refcount_signature(bytes: &[u8]) -> bool
 
 /// Whether block b is an index root of the volume, which has these fields.
 #[tactic(auto, unfolding(o2_model::specs::Indexes::is_index_root))]
-fn is_index_root_at(geo: &Geo, b: u64, root: &DxRoot) -> bool
+pub fn is_index_root_at(geo: &Geo, b: u64, root: &DxRoot) -> bool
     requires { HasSizes geo.now }
     ensures { (v : Volume) → v.geo ≡ geo.now → root.now ≡ dx_root v b → result ≡ is_some_index_root v b }
 {

@@ -1,2 +1,3 @@
+pub mod DirectoriesTold
 pub mod ListsTold
 pub mod Surveyed

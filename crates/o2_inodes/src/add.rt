@@ -1,21 +1,23 @@
 // One inode more.
-ghost use Rattle.std.specs.Prelude.{◌≡◌, ◌^◌, ◌≤◌, length, ℕ, List, OnOk, if◌then◌else◌};
+ghost use Rattle.std.specs.Prelude.{◌≡◌, ℕ, List, OnOk, if◌then◌else◌};
 ghost use Rattle.std.specs.Result.{IfErr};
 ghost use Rattle.o2_model.specs.Words.{push};
-ghost use Rattle.o2_model.specs.Inodes.{extents};
 ghost use Rattle.o2_model.specs.Volume.{Volume, is_valid};
 ghost use Rattle.o2_view.specs.Geos.{HasSizes, LiesIn};
 ghost use Rattle.o2_view.specs.OwnChecks.{BlockFails};
 ghost use Rattle.o2_view.specs.Views.{Shows, OnlyReads};
-ghost use Rattle.o2_extent.specs.Readings.{Keeps, Within};
-ghost use Rattle.o2_inodes.specs.InodeSurveys.{AreOwn, TellsInodes};
+ghost use Rattle.o2_tree.specs.TreeWalks.{AreOwn};
+ghost use Rattle.o2_inodes.specs.InodeReads.{Fits, IsInodeRead};
+ghost use Rattle.o2_inodes.specs.InodeSurveys.{TellsInodes};
 
 use crate::InodeSurvey;
-use crate::judged::{judge_extents, judge_kind, judge_last, judge_next, judge_size};
+use crate::directories::{judge_again, judge_blocks, judge_names, put_row};
+use crate::inode_read::{InodeRead, read_at};
+use crate::judged::{
+    judge_extents, judge_kind, judge_last, judge_next, judge_size, put_attributes,
+};
 use crate::row::row_of;
-use o2_dir::is_valid_dinode;
 use o2_disk::{Disk, NoMemory};
-use o2_extent::{Reading, is_block_in_range, look, read_own_list};
 use o2_model::Geo;
 use o2_ondisk::read_dinode;
 use o2_tally::put;
@@ -23,52 +25,39 @@ use o2_view::{View, ViewFault};
 use std::alloc::Global;
 use std::collections::BTreeSet;
 
-/// Whether these bytes of block b are a valid dinode.
-fn holds_inode(geo: &Geo, b: u64, bytes: &[u8]) -> bool
-    requires sizes { HasSizes geo.now }
-    requires long { 512 ≤ length bytes.now }
-    ensures { (v : Volume) → v.geo ≡ geo.now → bytes.now ≡ v.at b → result ≡ is_valid v b }
-{
-    let dinode = read_dinode(bytes);
-    is_valid_dinode(geo, b, &dinode)
-}
-
-/// Puts what there is to keep and to judge of the inode in block b, whose dinode has these bytes and whose list was read.
+/// Puts what there is to keep and to judge of the inode.
 fn put_inode(
     alloc: Global,
     geo: &Geo,
     own: &BTreeSet<u64>,
-    b: u64,
-    bytes: &[u8],
-    reading: &Reading,
+    inode: &InodeRead,
     survey: &mut InodeSurvey,
 ) -> Result<(), NoMemory>
     requires sizes { HasSizes geo.now }
-    requires size { length bytes.now ≡ 2 ^ geo.now.block_bits }
-    requires long { 512 ≤ length bytes.now }
-    requires within { Within geo.now reading.now.leaves.items }
-    ensures { OnOk result ((v : Volume) → v.geo ≡ geo.now → bytes.now ≡ v.at b → Keeps v reading.now (extents v b) → AreOwn v own.now
-        → (bs : List ℕ) → TellsInodes v bs survey.old → TellsInodes v (push bs b) survey.new) }
+    requires fits { Fits geo.now inode.now }
+    ensures { OnOk result ((v : Volume) → v.geo ≡ geo.now → IsInodeRead v inode.now → AreOwn v own.now
+        → (bs : List ℕ) → TellsInodes v bs survey.old → TellsInodes v (push bs inode.now.number) survey.new) }
 {
+    let b = inode.number;
+    let bytes = inode.block.as_slice();
+    let leaves = &inode.reading.leaves;
+    let blocks = &inode.reading.blocks;
     let dinode = read_dinode(bytes);
-    let row = row_of(alloc, geo, b, &dinode, reading)?;
+    let row = row_of(alloc, geo, b, &dinode, &inode.reading)?;
     put(&mut survey.rows, row)?;
     judge_kind(&dinode, b, &mut survey.kinds)?;
-    judge_extents(b, reading, &mut survey.extents)?;
-    judge_size(
-        alloc,
-        geo,
-        own,
-        b,
-        bytes,
-        &reading.leaves,
-        &mut survey.sizes,
-    )?;
-    judge_next(alloc, &reading.blocks, &mut survey.next_leaves)?;
-    judge_last(&dinode, b, &reading.blocks, &mut survey.last_leaves)
+    judge_extents(b, &inode.reading, &mut survey.extents)?;
+    judge_size(alloc, geo, own, b, bytes, leaves, &mut survey.sizes)?;
+    judge_next(alloc, blocks, &mut survey.next_leaves)?;
+    judge_last(&dinode, b, blocks, &mut survey.last_leaves)?;
+    put_row(alloc, b, &inode.directory, &mut survey.directories)?;
+    judge_blocks(&inode.directory, &mut survey.dir_blocks)?;
+    judge_names(&inode.directory, &mut survey.names)?;
+    judge_again(alloc, &inode.directory, &mut survey.again)?;
+    put_attributes(&dinode, b, &mut survey.attributes)
 }
 
-/// Puts the inode in block b, where there is a valid dinode. Its block and its extent blocks are read once.
+/// Puts the inode in block b, where there is a valid dinode. Its block, its extent blocks and a directory's blocks are read once.
 pub fn add_inode<D: Disk, const N: usize>(
     alloc: Global,
     view: &mut View<'_, D, N>,
@@ -83,14 +72,9 @@ pub fn add_inode<D: Disk, const N: usize>(
     ensures reads { OnlyReads view.old view.new }
     ensures fails { IfErr result (BlockFails view.old view.new) }
 {
-    if !is_block_in_range(geo, b) {
+    let Some(inode) = read_at(alloc, view, geo, b)? else {
         return Ok(());
-    }
-    let block = look(view, geo, b)?;
-    if !holds_inode(geo, b, block.as_slice()) {
-        return Ok(());
-    }
-    let reading = read_own_list(alloc, view, geo, b, block.as_slice())?;
-    put_inode(alloc, geo, own, b, block.as_slice(), &reading, survey)?;
+    };
+    put_inode(alloc, geo, own, &inode, survey)?;
     Ok(())
 }

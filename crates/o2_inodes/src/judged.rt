@@ -1,5 +1,6 @@
 // What is judged of an inode, while its dinode and its list are in hand.
-ghost use Rattle.std.specs.Prelude.{◌≡◌, ◌++◌, ◌^◌, ◌≤◌, length, ℕ, IfOk, OnOk};
+ghost use Rattle.std.specs.Prelude.{◌≡◌, ◌++◌, ◌∷◌, [], ◌^◌, ◌≤◌, length, ℕ, IfOk, OnOk, if◌then◌else◌};
+ghost use Rattle.o2_ondisk.specs.Bits.{has_bits, has_xattr_dyn_feature};
 ghost use Rattle.o2_model.specs.Faults.{fails_unless};
 ghost use Rattle.o2_model.specs.Checks.InodeKind.{inode_kind_faults};
 ghost use Rattle.o2_model.specs.Checks.Extent.{extent_faults};
@@ -11,20 +12,21 @@ ghost use Rattle.o2_model.specs.Volume.{Volume, dinode as dinode_in};
 ghost use Rattle.o2_view.specs.Geos.{HasSizes};
 ghost use Rattle.o2_extent.specs.Readings.{Keeps, AreListBlocks, Within};
 ghost use Rattle.o2_dir.specs.Fails.{HoldsLeaves};
-ghost use Rattle.o2_inodes.specs.InodeSurveys.{AreOwn, last_faults_of};
+ghost use Rattle.o2_tree.specs.TreeWalks.{AreOwn};
+ghost use Rattle.o2_inodes.specs.InodeSurveys.{last_faults_of};
 
 use o2_dir::{ends_in_numbered, has_size_of_kind};
 use o2_disk::NoMemory;
 use o2_extent::{Leaf, ListBlock, Reading, has_list};
 use o2_judges_blocks::{eb_next, last_leaf};
 use o2_model::Geo;
-use o2_ondisk::{Dinode, read_dinode};
+use o2_ondisk::{Dinode, DynFeatures, read_dinode};
 use o2_tally::put;
 use std::alloc::Global;
 use std::collections::BTreeSet;
 
 /// Puts some blocks at the end.
-fn put_all(found: &mut Vec<u64>, blocks: &[u64]) -> Result<(), NoMemory>
+pub fn put_all(found: &mut Vec<u64>, blocks: &[u64]) -> Result<(), NoMemory>
     ensures { OnOk result (found.new.items ≡ found.old.items ++ blocks.now) }
 {
     match found.extend_from_slice(blocks) {
@@ -122,4 +124,15 @@ pub fn judge_last(
         return Ok(());
     }
     put_unless(dinode.last_eb_blk == last_leaf(blocks), b, found)
+}
+
+/// Puts the inode in block b with this dinode at the end, where it has extended attributes.
+pub fn put_attributes(dinode: &Dinode, b: u64, found: &mut Vec<u64>) -> Result<(), NoMemory>
+    ensures { OnOk result ((v : Volume) → dinode.now ≡ dinode_in v b
+        → found.new.items ≡ found.old.items ++ (if has_bits (dinode_in v b).dyn_features.0 has_xattr_dyn_feature then b ∷ [] else [])) }
+{
+    if !dinode.dyn_features.has(DynFeatures::HAS_XATTR) {
+        return Ok(());
+    }
+    put(found, b)
 }

@@ -2,6 +2,8 @@
 #![tactic(auto)]
 
 mod add;
+mod directories;
+mod inode_read;
 mod judged;
 mod row;
 mod survey;

@@ -7,12 +7,15 @@ ghost use Rattle.o2_model.specs.Volume.{Volume, blocks as blocks_in};
 ghost use Rattle.o2_view.specs.Geos.{LiesIn};
 ghost use Rattle.o2_view.specs.OwnChecks.{BlockFails};
 ghost use Rattle.o2_view.specs.Views.{Shows, OnlyReads};
-ghost use Rattle.o2_inodes.specs.InodeSurveys.{AreOwn, TellsInodes};
+ghost use Rattle.o2_tree.specs.TreeRows.{IsDirectoryTable};
+ghost use Rattle.o2_tree.specs.TreeWalks.{AreOwn};
+ghost use Rattle.o2_inodes.specs.InodeSurveys.{TellsInodes};
 
 use crate::add::add_inode;
 use o2_disk::Disk;
 use o2_model::Geo;
 use o2_tables::InodeRow;
+use o2_tree::DirectoryRow;
 use o2_view::{View, ViewFault};
 use std::alloc::Global;
 use std::collections::BTreeSet;
@@ -32,6 +35,16 @@ pub struct InodeSurvey {
     pub next_leaves: Vec<u64>,
     /// The inodes at which LAST_EB fails.
     pub last_leaves: Vec<u64>,
+    /// What is kept of each inode that is a directory: its entries without their names.
+    pub directories: Vec<DirectoryRow>,
+    /// The blocks of directories at which DIR_BLOCK fails.
+    pub dir_blocks: Vec<u64>,
+    /// The blocks of directories at which DIRENT_NAME fails.
+    pub names: Vec<u64>,
+    /// The blocks of directories at which DIRENT_DUP fails.
+    pub again: Vec<u64>,
+    /// The inodes that have extended attributes.
+    pub attributes: Vec<u64>,
 }
 
 /// No inode was read yet.
@@ -45,11 +58,16 @@ fn nothing_surveyed(alloc: Global) -> InodeSurvey
         sizes: Vec::new(alloc),
         next_leaves: Vec::new(alloc),
         last_leaves: Vec::new(alloc),
+        directories: Vec::new(alloc),
+        dir_blocks: Vec::new(alloc),
+        names: Vec::new(alloc),
+        again: Vec::new(alloc),
+        attributes: Vec::new(alloc),
     }
 }
 
 /// Reads the inodes among these blocks, which are those with a set bit of a group of inodes; `own` are the volume's own inodes.
-/// Each block is read once, and so is each extent block of each list. NoMemory where memory runs out, DeviceFault where a read
+/// Each block is read once, and so is each extent block of each list and each block of a directory. NoMemory where memory runs out, DeviceFault where a read
 /// fails.
 pub fn inodes<D: Disk, const N: usize>(
     alloc: Global,
@@ -61,6 +79,8 @@ pub fn inodes<D: Disk, const N: usize>(
     requires { LiesIn geo.now view.old }
     ensures told { IfOk result (λ survey. (v : Volume) → Shows view.old geo.now v → blocks.now ≡ filter (has_inode_bit v) (range_with_len 0 (blocks_in v))
         → AreOwn v own.now → TellsInodes v (inodes_of v) survey) }
+    ensures directories { IfOk result (λ survey. (v : Volume) → Shows view.old geo.now v → blocks.now ≡ filter (has_inode_bit v) (range_with_len 0 (blocks_in v))
+        → AreOwn v own.now → IsDirectoryTable v survey.directories.items) }
     ensures reads { OnlyReads view.old view.new }
     ensures fails { IfErr result (BlockFails view.old view.new) }
 {

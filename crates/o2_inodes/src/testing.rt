@@ -1,12 +1,12 @@
 // A small volume, by hand.
-ghost use Rattle.std.specs.Prelude.{◌≡◌, ◌≤◌, length};
+ghost use Rattle.std.specs.Prelude.{◌≡◌, ◌+◌, ◌≤◌, length};
 ghost use Rattle.o2_view.specs.Geos.{HasSizes, HasNumbers, blocks_of};
 
 use o2_model::Geo;
 use o2_ondisk::{
-    Dinode, DxSeed, DynFeatures, ExtentBlock, ExtentListHeader, ExtentRec, ExtentSize, InodeFlags,
-    Signature, read_dinode, write_dinode, write_extent_block, write_extent_list_header,
-    write_extent_rec,
+    Dinode, DirEntry, DxSeed, DynFeatures, ExtentBlock, ExtentListHeader, ExtentRec, ExtentSize,
+    InodeFlags, Signature, read_dinode, write_dinode, write_dir_entry, write_extent_block,
+    write_extent_list_header, write_extent_rec,
 };
 
 // A volume of 3624 clusters of 4 KiB and two slots, with blocks of 512 bytes.
@@ -115,5 +115,37 @@ pub fn leaf() -> [u8; 512] {
     let mut block = [0; 512];
     write_extent_block(&mut block, &fields);
     write_extent_list_header(&mut block[0x30..], &header);
+    block
+}
+
+// An entry of this length with its name.
+fn put_entry(block: &mut [u8], at: usize, inode: u64, rec_len: u16, name: &[u8])
+    requires room { at + 12 + length name.now ≤ length block.old }
+    requires few { length name.now ≤ 255 }
+{
+    let fields = DirEntry {
+        inode,
+        rec_len,
+        name_len: name.len() as u8,
+        file_type: 1,
+    };
+    write_dir_entry(&mut block[at..], &fields);
+    block[at + 12..at + 12 + name.len()].copy_from_slice(name);
+}
+
+// A directory in block 67 with extended attributes: the dots, `a`, `a` again, and `b/`, in its dinode.
+pub fn directory() -> [u8; 512] {
+    let mut block = inode(67, 0o040755, 80, 0);
+    let dinode = Dinode {
+        dyn_features: DynFeatures(DynFeatures::INLINE_DATA.0 | DynFeatures::HAS_XATTR.0),
+        ..read_dinode(&block)
+    };
+    write_dinode(&mut block, &dinode);
+    block[0xc0] = 255;
+    put_entry(&mut block, 200, 67, 16, b".");
+    put_entry(&mut block, 216, 33, 16, b"..");
+    put_entry(&mut block, 232, 60, 16, b"a");
+    put_entry(&mut block, 248, 61, 16, b"a");
+    put_entry(&mut block, 264, 62, 16, b"b/");
     block
 }

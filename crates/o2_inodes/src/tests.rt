@@ -1,7 +1,7 @@
 // The pass over a few blocks, on a disk in memory.
 ghost use Rattle.std.specs.Prelude.{◌≤◌};
 
-use crate::testing::{file, file_with_leaf, inode, leaf, numbers};
+use crate::testing::{directory, file, file_with_leaf, inode, leaf, numbers};
 use crate::{InodeSurvey, inodes};
 use o2_disk::{Disk, How, MemDisk};
 use o2_model::Origin;
@@ -85,5 +85,25 @@ fn judges_inode_by_inode(rt: HostRuntime) -> Result<(), Fail> {
     assert_eq!(rt; survey.sizes.as_slice(), [64].as_slice());
     assert_eq!(rt; survey.next_leaves.as_slice(), [70].as_slice());
     assert_eq!(rt; survey.last_leaves.as_slice(), [61].as_slice());
+    Ok(())
+}
+
+// The directory's names are judged, and its entries kept; the file has no extended attributes.
+#[test]
+fn keeps_directories(rt: HostRuntime) -> Result<(), Fail> {
+    let alloc = rt.alloc();
+    let mut disk = MemDisk::new(alloc, 28992)?;
+    disk.attach(alloc, "disk", How::ReadWrite)?;
+    disk.write(60, &file())?;
+    disk.write(67, &directory())?;
+    let survey = survey_of(alloc, &mut disk, &[60, 67])?;
+    assert_eq!(rt; survey.directories.len(), 1);
+    assert_eq!(rt; survey.directories[0].block, 67);
+    assert_eq!(rt; survey.directories[0].entries.as_slice().len(), 5);
+    assert_eq!(rt; survey.directories[0].entries.as_slice()[3].inode, 61);
+    assert!(rt; survey.dir_blocks.is_empty());
+    assert_eq!(rt; survey.names.as_slice(), [67].as_slice());
+    assert_eq!(rt; survey.again.as_slice(), [67].as_slice());
+    assert_eq!(rt; survey.attributes.as_slice(), [67].as_slice());
     Ok(())
 }

@@ -23,8 +23,8 @@ returns-clause-told g c = both_ok c.settle.result _ _ _
     (λ es sound none v seen.
     let told = places_told v c.args.geo.now c.args.inode c.args.size c.args.leaves.now seen.shows.numbers seen.mapped _ _ _ _ c.as_slice-2.result.now _
     c.block_bytes-bytes.ensures.bytes c.blocks_per_cluster-per_cluster.ensures.blocks c.in_ok-places.ensures.places c.as_slice.ensures.value c.as_slice-2.ensures.value c.has_size.ensures in
-    let kept = c.in_ok-reading.ensures.read v seen.shows in (
-      (told.sound, (size_sound v c.args.inode (sym told.size ∙ c.if-not-has_size.false), (sym (faults_kept v c.args.inode _ c.in_ok-reading.reading told.blocks kept) ∙ none, tt))),
+    let kept = (c.in_ok-whole.ensures.read v seen.shows).kept in (
+      (told.sound, (size_sound v c.args.inode (sym told.size ∙ c.if-not-has_size.false), (sym (faults_kept v c.args.inode _ c.in_ok-whole.whole.reading told.blocks kept) ∙ none, tt))),
       sound (map (block_at_place v) c.as_slice-2.result.now) kept ∙ entries_kept v c.args.inode _ told.blocks,
     ))
     c.settle.ensures.sound
@@ -40,7 +40,7 @@ returns-clause-fails g c = fails_by c.settle.result _ c.args.view.now c.read_pla
       first = λ v seen.
           let told = places_told v c.args.geo.now c.args.inode c.args.size c.args.leaves.now seen.shows.numbers seen.mapped _ _ _ _ c.as_slice-2.result.now _
           c.block_bytes-bytes.ensures.bytes c.blocks_per_cluster-per_cluster.ensures.blocks c.in_ok-places.ensures.places c.as_slice.ensures.value c.as_slice-2.ensures.value c.has_size.ensures in
-          let faults = faults_kept v c.args.inode _ c.in_ok-reading.reading told.blocks (c.in_ok-reading.ensures.read v seen.shows) in
+          let faults = faults_kept v c.args.inode _ c.in_ok-whole.whole.reading told.blocks (c.in_ok-whole.ensures.read v seen.shows).kept in
           fails_blocks v c.args.inode check b _ found.0 told.sound (sym told.size ∙ c.if-not-has_size.false) faults found.1;
     })
     c.settle.ensures.bad)

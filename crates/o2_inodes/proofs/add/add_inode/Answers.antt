@@ -1,23 +1,11 @@
--- A block is told where it is a valid dinode, and else passed over.
-use Rattle.std.proofs.Common.{◌≡◌, ◌&&◌, nat_lt, true, sym, ◌∙◌, ap}
-use Rattle.o2_model.specs.Volume.{is_valid}
-use Rattle.o2_view.specs.Geos.{blocks_of}
-use Rattle.o2_view.proofs.Shown.{still_shows}
-use Rattle.o2_extent.proofs.Views.{only_both}
-use Rattle.o2_inodes.proofs.Surveyed.{invalid_out_of_range}
+-- The inode that was read is put there under its number.
+use Rattle.std.proofs.Common.{ℕ, subst}
+use Rattle.o2_model.specs.Words.{push}
+use Rattle.o2_inodes.specs.InodeSurveys.{TellsInodes}
 use Rattle.o2_inodes.proofs.add.add_inode.Goals as goal
-
-pub returns-then-not-is_block_in_range-clause-told : goal.returns-then-not-is_block_in_range-clause-told
-returns-then-not-is_block_in_range-clause-told g c v shows own bs tells =
-    let b = c.args.b in
-    rw (invalid_out_of_range v b (ap (λ geo. nat_lt 0 b && nat_lt b (blocks_of geo)) shows.numbers ∙ (sym c.is_block_in_range.ensures ∙ c.if-not-is_block_in_range.true))) tells
 
 pub returns-clause-told : goal.returns-clause-told
 returns-clause-told g c v shows own bs tells =
-    let holds = c.in_ok-block.ensures.bytes v shows in
-    let valid : is_valid v c.args.b ≡ true = sym (c.holds_inode.ensures v shows.numbers (c.as_slice.ensures ∙ holds)) ∙ c.if-not-holds_inode.false in
-    let kept = c.in_ok-reading.ensures.read v (record { shows = still_shows c.look.ensures.reads shows; is = c.as_slice-2.ensures ∙ holds }) in
-    rw valid (c.in_ok-put_inode.ensures v shows.numbers (c.as_slice-3.ensures ∙ holds) kept own bs tells)
-
-pub returns-clause-reads : goal.returns-clause-reads
-returns-clause-reads g c = only_both c.look.ensures.reads c.read_own_list.ensures.reads
+    let read = rw c.in-Some.is at c.in_ok-inode.ensures.told v shows in
+    let number = rw c.in-Some.is at c.in_ok-inode.ensures.number in
+    rw read.0 (subst (λ (n : ℕ). TellsInodes v (push bs n) c.put_inode.new.survey) number (c.in_ok-put_inode.ensures v shows.numbers read.1 own bs tells))

@@ -2,7 +2,8 @@
 use Rattle.std.proofs.Common.{filter, take}
 use Rattle.o2_model.specs.Volume.{Volume, is_valid}
 use Rattle.o2_view.specs.Views.{Shows, OnlyReads}
-use Rattle.o2_inodes.specs.InodeSurveys.{AreOwn, TellsInodes}
+use Rattle.o2_tree.specs.TreeWalks.{AreOwn}
+use Rattle.o2_inodes.specs.InodeSurveys.{TellsInodes}
 use Rattle.o2_inodes.proofs.survey.inodes.Given as goal
 
 abbrev pub invariant-loop-b : goal.invariant-loop-b

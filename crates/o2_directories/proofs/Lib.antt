@@ -1,0 +1,2 @@
+pub mod MetNames
+pub mod SoundNames

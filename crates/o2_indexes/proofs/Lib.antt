@@ -1,0 +1,4 @@
+pub mod Agreements
+pub mod PlacesTold
+pub mod RowsTold
+pub mod SoundTold
