@@ -1,0 +1,5 @@
+pub mod Ranges
+pub mod Claimed
+pub mod SlotWalks
+pub mod WindowsTold
+pub mod LogsTold

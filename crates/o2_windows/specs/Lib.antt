@@ -1,0 +1,2 @@
+pub mod WindowBits
+pub mod SlotRows
