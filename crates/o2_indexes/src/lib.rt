@@ -11,6 +11,7 @@ mod rows;
 
 pub use directory::IndexedDirectory;
 pub use read::read_index;
+pub use rows::{origin_rows, runs_of};
 
 #[cfg(test)]
 mod testing;

@@ -34,7 +34,7 @@ fn run_of(geo: &Geo, leaf: &Leaf) -> Result<ClusterRun, NoMemory>
 }
 
 /// The clusters under the records, in order.
-fn runs_of(alloc: Global, geo: &Geo, leaves: &[Leaf]) -> Result<Vec<ClusterRun>, NoMemory>
+pub fn runs_of(alloc: Global, geo: &Geo, leaves: &[Leaf]) -> Result<Vec<ClusterRun>, NoMemory>
     requires { HasSizes geo.now }
     ensures { IfOk result (λ runs. (v : Volume) → v.geo ≡ geo.now → runs.items ≡ map (run_told v) leaves.now) }
 {
@@ -60,7 +60,7 @@ fn origin_row(block: &ListBlock) -> ExtentBlockRow
 }
 
 /// The rows of the extent blocks, in order.
-fn origin_rows(alloc: Global, blocks: &[ListBlock]) -> Result<Vec<ExtentBlockRow>, NoMemory>
+pub fn origin_rows(alloc: Global, blocks: &[ListBlock]) -> Result<Vec<ExtentBlockRow>, NoMemory>
     ensures { IfOk result (λ rows. rows.items ≡ map row_told blocks.now) }
 {
     match blocks.iter().map(|block| origin_row(block)).collect(alloc) {

@@ -1,3 +1,4 @@
 pub mod DirectoriesTold
+pub mod IndexesTold
 pub mod ListsTold
 pub mod Surveyed

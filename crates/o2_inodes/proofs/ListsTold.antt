@@ -12,7 +12,7 @@ use Rattle.o2_extent.specs.Readings.{IsListBlock, AreListBlocks}
 use Rattle.o2_extent.specs.declared.list_block.ListBlock.{ListBlock}
 use Rattle.o2_tables.specs.Rows.{IsExtentBlockRow, AreExtentBlockRows}
 use Rattle.o2_tables.specs.declared.inodes.ExtentBlockRow.{ExtentBlockRow}
-use Rattle.o2_inodes.specs.InodeSurveys.{origin_row}
+use Rattle.o2_indexes.specs.Readings.{origin_row}
 
 pub own_list_gives : {A : Type 0} (f : Extents → List A) → f nothing_read ≡ [] → (v : Volume) (b : ℕ) → flat_map f (extent_lists_of v b) ≡ f (extents v b)
 unfolding extent_lists_of extents

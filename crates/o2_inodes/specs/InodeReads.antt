@@ -5,6 +5,7 @@ use Rattle.o2_model.specs.Volume.{Volume}
 use Rattle.o2_model.specs.Inodes.{extents}
 use Rattle.o2_extent.specs.Readings.{Keeps, Within}
 use Rattle.o2_inodes.specs.Directories.{TellsDirectory}
+use Rattle.o2_inodes.specs.Indexes.{TellsIndex}
 use Rattle.o2_inodes.specs.declared.inode_read.InodeRead.{InodeRead}
 
 -- its block has the size of these numbers' blocks, and its records' clusters lie within their volume
@@ -18,3 +19,4 @@ pub record IsInodeRead (v : Volume) (inode : InodeRead) : Type 0 where
   pub holds : inode.block ≡ v.at inode.number
   pub kept : Keeps v inode.reading (extents v inode.number)
   pub directory : TellsDirectory v inode.number inode.directory
+  pub index : TellsIndex v inode.number inode.index

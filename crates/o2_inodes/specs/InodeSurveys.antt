@@ -14,10 +14,9 @@ use Rattle.o2_model.specs.Checks.LastEb.{last_leaf}
 use Rattle.o2_model.specs.Checks.DirBlock.{dir_block_faults}
 use Rattle.o2_model.specs.Checks.DirentName.{dirent_name_faults}
 use Rattle.o2_model.specs.Checks.DirentDup.{dirent_dup_faults}
-use Rattle.o2_extent.specs.declared.list_block.ListBlock.{ListBlock}
 use Rattle.o2_tables.specs.Rows.{IsInodeRow}
-use Rattle.o2_tables.specs.declared.inodes.ExtentBlockRow.{ExtentBlockRow}
 use Rattle.o2_inodes.specs.Directories.{AreDirectories}
+use Rattle.o2_inodes.specs.Indexes.{AreIndexes}
 use Rattle.o2_inodes.specs.declared.survey.InodeSurvey.{InodeSurvey}
 
 -- What was read of these inodes, in order, and where checks that are judged inode by inode fail for them.
@@ -33,15 +32,9 @@ pub record TellsInodes (v : Volume) (bs : List ℕ) (survey : InodeSurvey) : Typ
   pub dir_blocks : survey.dir_blocks.items ≡ flat_map (dir_block_faults v) (filter (is_directory v) bs)
   pub names : survey.names.items ≡ flat_map (dirent_name_faults v) (filter (is_directory v) bs)
   pub again : rising survey.again.items ≡ rising (flat_map (dirent_dup_faults v) (filter (is_directory v) bs))
+  pub indexes : AreIndexes v bs survey.indexes.items
   pub attributes : survey.attributes.items ≡ filter (λ b. has_bits (dinode v b).dyn_features.0 has_xattr_dyn_feature) bs
 
 -- LAST_EB of one inode, where it has a list
 abbrev pub last_faults_of : Volume → ℕ → List ℕ
 last_faults_of v b = if has_list v b then fails_unless b ((dinode v b).last_eb_blk == last_leaf v (extents_in v b)) else []
-
--- what the extent block says of where it is from
-abbrev pub origin_row : ListBlock → ExtentBlockRow
-origin_row block = record {
-  block = block.block;
-  origin = record { slot = block.fields.suballoc_slot; bit = block.fields.suballoc_bit; loc = block.fields.suballoc_loc };
-}

@@ -1,3 +1,4 @@
 pub mod Directories
+pub mod Indexes
 pub mod InodeReads
 pub mod InodeSurveys

@@ -12,6 +12,7 @@ ghost use Rattle.o2_inodes.specs.InodeSurveys.{TellsInodes};
 
 use crate::InodeSurvey;
 use crate::directories::{judge_again, judge_blocks, judge_names, put_row};
+use crate::indexes::put_index;
 use crate::inode_read::{InodeRead, read_at};
 use crate::judged::{
     judge_extents, judge_kind, judge_last, judge_next, judge_size, put_attributes,
@@ -30,14 +31,15 @@ fn put_inode(
     alloc: Global,
     geo: &Geo,
     own: &BTreeSet<u64>,
-    inode: &InodeRead,
+    inode: InodeRead,
     survey: &mut InodeSurvey,
 ) -> Result<(), NoMemory>
     requires sizes { HasSizes geo.now }
-    requires fits { Fits geo.now inode.now }
-    ensures { OnOk result ((v : Volume) → v.geo ≡ geo.now → IsInodeRead v inode.now → AreOwn v own.now
-        → (bs : List ℕ) → TellsInodes v bs survey.old → TellsInodes v (push bs inode.now.number) survey.new) }
+    requires fits { Fits geo.now inode }
+    ensures { OnOk result ((v : Volume) → v.geo ≡ geo.now → IsInodeRead v inode → AreOwn v own.now
+        → (bs : List ℕ) → TellsInodes v bs survey.old → TellsInodes v (push bs inode.number) survey.new) }
 {
+    let index = inode.index;
     let b = inode.number;
     let bytes = inode.block.as_slice();
     let leaves = &inode.reading.leaves;
@@ -54,10 +56,12 @@ fn put_inode(
     judge_blocks(&inode.directory, &mut survey.dir_blocks)?;
     judge_names(&inode.directory, &mut survey.names)?;
     judge_again(alloc, &inode.directory, &mut survey.again)?;
+    put_index(index, &mut survey.indexes)?;
     put_attributes(&dinode, b, &mut survey.attributes)
 }
 
-/// Puts the inode in block b, where there is a valid dinode. Its block, its extent blocks and a directory's blocks are read once.
+/// Puts the inode in block b, where there is a valid dinode. Its block, its extent blocks, a directory's blocks and those of its
+/// index are read once.
 pub fn add_inode<D: Disk, const N: usize>(
     alloc: Global,
     view: &mut View<'_, D, N>,
@@ -75,6 +79,6 @@ pub fn add_inode<D: Disk, const N: usize>(
     let Some(inode) = read_at(alloc, view, geo, b)? else {
         return Ok(());
     };
-    put_inode(alloc, geo, own, &inode, survey)?;
+    put_inode(alloc, geo, own, inode, survey)?;
     Ok(())
 }

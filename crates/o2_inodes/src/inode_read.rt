@@ -9,11 +9,13 @@ ghost use Rattle.o2_view.specs.Views.{Shows, OnlyReads};
 ghost use Rattle.o2_inodes.specs.InodeReads.{Fits, IsInodeRead};
 
 use crate::directories::directory_in;
+use crate::indexes::index_in;
 use o2_dir::{WholeDirectory, is_valid_dinode};
 use o2_disk::Disk;
 use o2_extent::{Reading, is_block_in_range, look, read_own_list};
 use o2_model::Geo;
 use o2_ondisk::read_dinode;
+use o2_tree::IndexRow;
 use o2_view::{Block, View, ViewFault};
 use std::alloc::Global;
 
@@ -28,6 +30,8 @@ pub struct InodeRead {
     pub reading: Reading,
     /// Its blocks, where it is a directory.
     pub directory: Option<WholeDirectory>,
+    /// Its index, where it is a directory that has one.
+    pub index: Option<IndexRow>,
 }
 
 /// Whether these bytes of block b are a valid dinode.
@@ -40,7 +44,7 @@ fn holds_inode(geo: &Geo, b: u64, bytes: &[u8]) -> bool
     is_valid_dinode(geo, b, &dinode)
 }
 
-/// Reads the list of the inode in block b, which has these bytes, and its blocks where it is a directory.
+/// Reads the list of the inode in block b, which has these bytes, and where it is a directory its blocks and its index.
 fn read_more<D: Disk, const N: usize>(
     alloc: Global,
     view: &mut View<'_, D, N>,
@@ -60,16 +64,18 @@ fn read_more<D: Disk, const N: usize>(
     let reading = read_own_list(alloc, view, geo, number, block.as_slice())?;
     let leaves = &reading.leaves;
     let directory = directory_in(alloc, view, geo, number, block.as_slice(), leaves)?;
+    let index = index_in(alloc, view, geo, number, block.as_slice(), &directory)?;
     Ok(InodeRead {
         number,
         block,
         reading,
         directory,
+        index,
     })
 }
 
-/// Reads the inode in block b: that block, its extent blocks and a directory's blocks, each once. None where no valid dinode
-/// stands there, and then nothing else is read.
+/// Reads the inode in block b: that block, its extent blocks, a directory's blocks and those of its index, each once. None where
+/// no valid dinode stands there, and then nothing else is read.
 pub fn read_at<D: Disk, const N: usize>(
     alloc: Global,
     view: &mut View<'_, D, N>,

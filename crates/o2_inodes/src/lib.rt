@@ -3,6 +3,7 @@
 
 mod add;
 mod directories;
+mod indexes;
 mod inode_read;
 mod judged;
 mod row;

@@ -1,71 +1,18 @@
 // What the table keeps of an inode.
-ghost use Rattle.std.specs.Prelude.{◌≡◌, ℕ, map, IfOk};
+ghost use Rattle.std.specs.Prelude.{◌≡◌, ℕ, IfOk};
 ghost use Rattle.o2_model.specs.Inodes.{extents};
 ghost use Rattle.o2_model.specs.Volume.{Volume, dinode as dinode_in};
 ghost use Rattle.o2_view.specs.Geos.{HasSizes};
 ghost use Rattle.o2_extent.specs.Readings.{Keeps};
-ghost use Rattle.o2_tables.specs.Rows.{IsInodeRow, run_of as run_told, tree_named, tree_of};
-ghost use Rattle.o2_inodes.specs.InodeSurveys.{origin_row as row_told};
+ghost use Rattle.o2_tables.specs.Rows.{IsInodeRow, tree_named, tree_of};
 
 use o2_disk::NoMemory;
-use o2_extent::{Leaf, ListBlock, Reading, blocks_per_cluster, is_block_in_range};
+use o2_extent::{Reading, is_block_in_range};
+use o2_indexes::{origin_rows, runs_of};
 use o2_model::{Geo, Items, Origin};
-use o2_ondisk::{Dinode, DynFeatures, ExtentFlags};
-use o2_tables::{ClusterRun, ExtentBlockRow, InodeRow};
-use o2_tally::put;
+use o2_ondisk::{Dinode, DynFeatures};
+use o2_tables::InodeRow;
 use std::alloc::Global;
-
-/// The clusters under the record. A record of the volume begins in a cluster whose number has 32 bits, so that none is refused.
-fn run_of(geo: &Geo, leaf: &Leaf) -> Result<ClusterRun, NoMemory>
-    requires { HasSizes geo.now }
-    ensures { IfOk result (λ run. (v : Volume) → v.geo ≡ geo.now → run ≡ run_told v leaf.now) }
-{
-    let per_cluster = blocks_per_cluster(geo);
-    let Ok(start) = u32::try_from(leaf.block / per_cluster) else {
-        return Err(NoMemory);
-    };
-    Ok(ClusterRun {
-        start,
-        clusters: leaf.clusters,
-        is_shared: ExtentFlags(leaf.flags).has(ExtentFlags::REFCOUNTED),
-    })
-}
-
-/// The clusters under the records, in order.
-fn runs_of(alloc: Global, geo: &Geo, leaves: &[Leaf]) -> Result<Vec<ClusterRun>, NoMemory>
-    requires { HasSizes geo.now }
-    ensures { IfOk result (λ runs. (v : Volume) → v.geo ≡ geo.now → runs.items ≡ map (run_told v) leaves.now) }
-{
-    let mut runs = Vec::new(alloc);
-    for leaf in leaves {
-        put(&mut runs, run_of(geo, leaf)?)?;
-    }
-    Ok(runs)
-}
-
-/// The row of an extent block.
-fn origin_row(block: &ListBlock) -> ExtentBlockRow
-    ensures { result ≡ row_told block.now }
-{
-    ExtentBlockRow {
-        block: block.block,
-        origin: Origin {
-            slot: block.fields.suballoc_slot,
-            bit: block.fields.suballoc_bit,
-            loc: block.fields.suballoc_loc,
-        },
-    }
-}
-
-/// The rows of the extent blocks, in order.
-fn origin_rows(alloc: Global, blocks: &[ListBlock]) -> Result<Vec<ExtentBlockRow>, NoMemory>
-    ensures { IfOk result (λ rows. rows.items ≡ map row_told blocks.now) }
-{
-    match blocks.iter().map(|block| origin_row(block)).collect(alloc) {
-        Ok(rows) => Ok(rows),
-        Err(_) => Err(NoMemory),
-    }
-}
 
 /// The root that the dinode names with HAS_REFCOUNT, in range or not.
 fn named_tree(dinode: &Dinode) -> Option<u64>

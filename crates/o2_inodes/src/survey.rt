@@ -7,7 +7,7 @@ ghost use Rattle.o2_model.specs.Volume.{Volume, blocks as blocks_in};
 ghost use Rattle.o2_view.specs.Geos.{LiesIn};
 ghost use Rattle.o2_view.specs.OwnChecks.{BlockFails};
 ghost use Rattle.o2_view.specs.Views.{Shows, OnlyReads};
-ghost use Rattle.o2_tree.specs.TreeRows.{IsDirectoryTable};
+ghost use Rattle.o2_tree.specs.TreeRows.{IsDirectoryTable, IsIndexTable};
 ghost use Rattle.o2_tree.specs.TreeWalks.{AreOwn};
 ghost use Rattle.o2_inodes.specs.InodeSurveys.{TellsInodes};
 
@@ -15,7 +15,7 @@ use crate::add::add_inode;
 use o2_disk::Disk;
 use o2_model::Geo;
 use o2_tables::InodeRow;
-use o2_tree::DirectoryRow;
+use o2_tree::{DirectoryRow, IndexRow};
 use o2_view::{View, ViewFault};
 use std::alloc::Global;
 use std::collections::BTreeSet;
@@ -43,6 +43,8 @@ pub struct InodeSurvey {
     pub names: Vec<u64>,
     /// The blocks of directories at which DIRENT_DUP fails.
     pub again: Vec<u64>,
+    /// What is kept of the index of each directory that has one.
+    pub indexes: Vec<IndexRow>,
     /// The inodes that have extended attributes.
     pub attributes: Vec<u64>,
 }
@@ -62,13 +64,14 @@ fn nothing_surveyed(alloc: Global) -> InodeSurvey
         dir_blocks: Vec::new(alloc),
         names: Vec::new(alloc),
         again: Vec::new(alloc),
+        indexes: Vec::new(alloc),
         attributes: Vec::new(alloc),
     }
 }
 
 /// Reads the inodes among these blocks, which are those with a set bit of a group of inodes; `own` are the volume's own inodes.
-/// Each block is read once, and so is each extent block of each list and each block of a directory. NoMemory where memory runs out, DeviceFault where a read
-/// fails.
+/// Each block is read once, and so is each extent block of each list, each block of a directory and each of its index. NoMemory
+/// where memory runs out, DeviceFault where a read fails.
 pub fn inodes<D: Disk, const N: usize>(
     alloc: Global,
     view: &mut View<'_, D, N>,
@@ -81,6 +84,8 @@ pub fn inodes<D: Disk, const N: usize>(
         → AreOwn v own.now → TellsInodes v (inodes_of v) survey) }
     ensures directories { IfOk result (λ survey. (v : Volume) → Shows view.old geo.now v → blocks.now ≡ filter (has_inode_bit v) (range_with_len 0 (blocks_in v))
         → AreOwn v own.now → IsDirectoryTable v survey.directories.items) }
+    ensures indexes { IfOk result (λ survey. (v : Volume) → Shows view.old geo.now v → blocks.now ≡ filter (has_inode_bit v) (range_with_len 0 (blocks_in v))
+        → AreOwn v own.now → IsIndexTable v survey.indexes.items) }
     ensures reads { OnlyReads view.old view.new }
     ensures fails { IfErr result (BlockFails view.old view.new) }
 {

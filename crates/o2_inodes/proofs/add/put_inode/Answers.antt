@@ -21,7 +21,7 @@ use Rattle.o2_inodes.proofs.add.put_inode.Goals as goal
 pub returns : goal.returns
 returns c = on_ok_weaker c.put_attributes.result
     (λ marked v same read own bs tells.
-    let b = c.args.inode.now.number in
+    let b = c.args.inode.number in
     let holds = c.as_slice-bytes.ensures ∙ read.holds in
     let is = c.read_dinode-dinode.ensures ∙ ap dinode_of holds in
     let blocks = subst (AreListBlocks v (extents v b).blocks) (sym c.deref-2.ensures.value) read.kept.blocks in
@@ -38,6 +38,7 @@ returns c = on_ok_weaker c.put_attributes.result
       dir_blocks = directory_more v dir_block_faults bs _ _ b tells.dir_blocks (c.in_ok-judge_blocks.ensures v b read.directory);
       names = directory_more v dirent_name_faults bs _ _ b tells.names (c.in_ok-judge_names.ensures v b read.directory);
       again = again_more v dirent_dup_faults bs c.args.survey.now.again.items c.judge_again.new.found.items b tells.again (c.in_ok-judge_again.ensures v b read.directory);
+      indexes = c.in_ok-put_index.ensures v b read.index bs tells.indexes;
       attributes = passed_more (λ b. has_bits (dinode v b).dyn_features.0 has_xattr_dyn_feature) bs _ _ b tells.attributes (marked v is);
     })
     c.put_attributes.ensures

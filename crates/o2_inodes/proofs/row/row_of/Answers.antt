@@ -4,7 +4,7 @@ use Rattle.o2_ondisk.specs.Kinds.{kind_of_mode}
 use Rattle.o2_ondisk.specs.declared.dinode.Dinode.{Dinode}
 use Rattle.o2_model.specs.Files.{links_of}
 use Rattle.o2_tables.specs.Rows.{run_of}
-use Rattle.o2_inodes.specs.InodeSurveys.{origin_row}
+use Rattle.o2_indexes.specs.Readings.{origin_row}
 use Rattle.o2_inodes.proofs.ListsTold.{blocks_of_lists_told, records_of_list}
 use Rattle.o2_inodes.proofs.row.row_of.Goals as goal
 

@@ -6,6 +6,7 @@ use Rattle.o2_view.proofs.Shown.{still_shows}
 use Rattle.o2_extent.proofs.Views.{only_none, only_both}
 use Rattle.o2_inodes.specs.InodeSurveys.{TellsInodes}
 use Rattle.o2_inodes.proofs.DirectoriesTold.{directory_table}
+use Rattle.o2_inodes.proofs.IndexesTold.{index_table}
 use Rattle.o2_inodes.proofs.Surveyed.{one_asked, all_inodes}
 use Rattle.o2_inodes.proofs.survey.inodes.Goals as goal
 
@@ -32,6 +33,13 @@ returns-clause-told g c v shows are own =
 pub returns-clause-directories : goal.returns-clause-directories
 returns-clause-directories g c v shows are own =
     directory_table v c.loop-b.survey
+    (subst (λ (bs : List ℕ). TellsInodes v bs c.loop-b.survey)
+    (ap (filter (is_valid v)) (take_all c.loop-b.b-index c.args.blocks.now c.loop-b-test.false) ∙ all_inodes v c.args.blocks.now are)
+    (c.loop-b.invariant.tells v shows own))
+
+pub returns-clause-indexes : goal.returns-clause-indexes
+returns-clause-indexes g c v shows are own =
+    index_table v c.loop-b.survey
     (subst (λ (bs : List ℕ). TellsInodes v bs c.loop-b.survey)
     (ap (filter (is_valid v)) (take_all c.loop-b.b-index c.args.blocks.now c.loop-b-test.false) ∙ all_inodes v c.args.blocks.now are)
     (c.loop-b.invariant.tells v shows own))
