@@ -1,10 +1,14 @@
 -- The command lines that the program reads, and how it refuses other words.
-use Rattle.std.specs.Prelude.{◌≡◌, ◌⊎◌, ℕ, ◌+◌, ◌<◌, ◌≤◌, List, [], ◌∷◌, length, map, take, codes, slice_index_or}
+use Rattle.std.specs.Prelude.{◌≡◌, ◌⊎◌, ℕ, ◌+◌, ◌-◌, ◌<◌, ◌≤◌, List, [], ◌∷◌, ◌++◌, length, map, take, codes, slice_index_or}
+use Rattle.std.specs.List.{AllZip, concat}
 use Rattle.o2_words.specs.Forms.{Form, IsLineOf, BeginsLineOf}
+use Rattle.o2_words.specs.LetterWords.{IsLetterWord, GivesAnswer}
 use Rattle.o2_words.specs.QueryWords.{IsForLater, IsQueryWord}
 use Rattle.o2_words.specs.declared.command.WordFault.{WordFault}
 use Rattle.o2_words.specs.declared.command.WordFault.TheVariants.{NoMemory, Usage, Later}
 use Rattle.o2_words.specs.declared.form.TheConstants.{FORMS}
+use Rattle.o2_words.specs.declared.letters.Answer.{Answer}
+use Rattle.o2_words.specs.declared.letters.Answer.TheVariants.{No, Yes}
 pub use Rattle.o2_words.specs.Forms.{Words, texts}
 pub use Rattle.o2_words.specs.Kinds.{IsDevice}
 
@@ -19,6 +23,15 @@ pub record IsDebugLine (word device : List ℕ) (words : Words) : Type 0 where
   pub asks : IsQueryWord word
   pub names : IsDevice device
 
+-- fsck, words of letters and DEVICE. `letters` are those of each word, and all of them together give the answer
+pub record IsFsckLine (answer : Answer) (letters : List (List ℕ)) (device : List ℕ) (words : Words) : Type 0 where
+  pub between : Words
+  pub form : words ≡ codes "fsck" ∷ (between ++ device ∷ [])
+  pub some : 0 < length between
+  pub each : AllZip IsLetterWord letters between
+  pub gives : GivesAnswer answer (concat letters)
+  pub names : IsDevice device
+
 -- the words are a command line of tunefs
 abbrev pub IsTunefs : Words → Type 0
 IsTunefs words = (label : List ℕ) × ((device : List ℕ) × IsLabelLine label device words)
@@ -26,6 +39,22 @@ IsTunefs words = (label : List ℕ) × ((device : List ℕ) × IsLabelLine label
 -- or of debugfs
 abbrev pub IsDebugfs : Words → Type 0
 IsDebugfs words = (word : List ℕ) × ((device : List ℕ) × IsDebugLine word device words)
+
+-- or one of fsck that gives this answer
+abbrev pub IsFsckOf : Answer → Words → Type 0
+IsFsckOf answer words = (letters : List (List ℕ)) × ((device : List ℕ) × IsFsckLine answer letters device words)
+
+-- or any one of fsck
+abbrev pub IsFsck : Words → Type 0
+IsFsck words = (answer : Answer) × IsFsckOf answer words
+
+-- one by which a volume is checked and nothing written
+abbrev pub IsCheckLine : Words → Type 0
+IsCheckLine words = IsFsckOf No words
+
+-- and one by which it is mended
+abbrev pub IsMendLine : Words → Type 0
+IsMendLine words = IsFsckOf Yes words
 
 -- the forms that are served
 abbrev pub forms : List Form
@@ -58,7 +87,7 @@ AreFirst tool option words = (rest : Words) × (words ≡ tool ∷ option ∷ re
 -- a tool or a form that is not built yet
 abbrev pub IsNotBuilt : Words → Type 0
 IsNotBuilt words =
-    IsFirst (codes "mkfs") words ⊎ IsFirst (codes "fsck") words ⊎ IsFirst (codes "sample") words
+    IsFirst (codes "mkfs") words ⊎ IsFirst (codes "sample") words
     ⊎ AreFirst (codes "tunefs") (codes "-N") words ⊎ AreFirst (codes "tunefs") (codes "-J") words ⊎ AreFirst (codes "tunefs") (codes "-S") words
 
 -- a command line of debugfs that asks for what is not answered yet
@@ -70,7 +99,7 @@ pub record IsLaterLine (words : Words) : Type 0 where
 
 -- words that are not served, and why
 abbrev pub RefusesWords : Words → WordFault → Type 0
-RefusesWords words Later = IsNotBuilt words ⊎ IsLaterLine words
+RefusesWords words Later = IsNotBuilt words ⊎ IsLaterLine words ⊎ IsMendLine words
 RefusesWords words (Usage place) = (IsNotBuilt words → ⊥) × LeavesAt words place
 RefusesWords words NoMemory = Unit {0}
 
@@ -89,3 +118,11 @@ word_of words = slice_index_or words 2 []
 -- the device's name, in either
 abbrev pub device_of : Words → List ℕ
 device_of words = slice_index_or words 3 []
+
+-- the place of the device's name in one of fsck, where it is the last word
+abbrev pub place_of_device : Words → ℕ
+place_of_device words = length words - 1
+
+-- and that name
+abbrev pub checked_device_of : Words → List ℕ
+checked_device_of words = slice_index_or words (place_of_device words) []

@@ -3,6 +3,7 @@ pub mod CommandLine
 pub mod Commands
 pub mod Forms
 pub mod Kinds
+pub mod LetterWords
 pub mod Names
 pub mod Parts
 pub mod QueryWords

@@ -10,6 +10,8 @@ pub enum Command {
     Label { label: Bytes, device: u32 },
     /// Something of a volume, told.
     Debug { query: Query, device: u32 },
+    /// The checks of a volume told, and nothing written.
+    Check { device: u32 },
 }
 
 /// Why words are not served.

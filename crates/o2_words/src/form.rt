@@ -2,7 +2,7 @@
 ghost use Rattle.std.specs.Prelude.{◌↔◌, IsTrue};
 ghost use Rattle.o2_words.specs.Parts.{Reads, MayBeLeft};
 
-use crate::{Kind, Name};
+use crate::{Answer, Kind, Name};
 
 /// A part of a command line.
 #[derive(Clone, Copy)]
@@ -33,8 +33,63 @@ pub const DEBUG_FORM: [Part; 4] = [
     Part::One(Kind::Device),
 ];
 
+/// `fsck -n DEVICE`, with `-fn` or `-nf` as well.
+pub const NO_FORM: [Part; 3] = [
+    Part::One(Kind::Fixed(Name::Fsck)),
+    Part::One(Kind::Letters(Answer::No)),
+    Part::One(Kind::Device),
+];
+
+/// `fsck -f -n DEVICE`
+pub const FORCE_NO_FORM: [Part; 4] = [
+    Part::One(Kind::Fixed(Name::Fsck)),
+    Part::One(Kind::Fixed(Name::Force)),
+    Part::One(Kind::Fixed(Name::No)),
+    Part::One(Kind::Device),
+];
+
+/// `fsck -n -f DEVICE`
+pub const NO_FORCE_FORM: [Part; 4] = [
+    Part::One(Kind::Fixed(Name::Fsck)),
+    Part::One(Kind::Fixed(Name::No)),
+    Part::One(Kind::Fixed(Name::Force)),
+    Part::One(Kind::Device),
+];
+
+/// `fsck -y DEVICE`, with `-fy` or `-yf` as well.
+pub const YES_FORM: [Part; 3] = [
+    Part::One(Kind::Fixed(Name::Fsck)),
+    Part::One(Kind::Letters(Answer::Yes)),
+    Part::One(Kind::Device),
+];
+
+/// `fsck -f -y DEVICE`
+pub const FORCE_YES_FORM: [Part; 4] = [
+    Part::One(Kind::Fixed(Name::Fsck)),
+    Part::One(Kind::Fixed(Name::Force)),
+    Part::One(Kind::Fixed(Name::Yes)),
+    Part::One(Kind::Device),
+];
+
+/// `fsck -y -f DEVICE`
+pub const YES_FORCE_FORM: [Part; 4] = [
+    Part::One(Kind::Fixed(Name::Fsck)),
+    Part::One(Kind::Fixed(Name::Yes)),
+    Part::One(Kind::Fixed(Name::Force)),
+    Part::One(Kind::Device),
+];
+
 /// The forms of the command lines that are served.
-pub const FORMS: [&[Part]; 2] = [&LABEL_FORM, &DEBUG_FORM];
+pub const FORMS: [&[Part]; 8] = [
+    &LABEL_FORM,
+    &DEBUG_FORM,
+    &NO_FORM,
+    &FORCE_NO_FORM,
+    &NO_FORCE_FORM,
+    &YES_FORM,
+    &FORCE_YES_FORM,
+    &YES_FORCE_FORM,
+];
 
 impl Part {
     /// Whether the part begins with this word.

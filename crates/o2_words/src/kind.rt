@@ -2,8 +2,8 @@
 ghost use Rattle.std.specs.Prelude.{◌↔◌, IsTrue};
 ghost use Rattle.o2_words.specs.Kinds.{IsDevice, Fits};
 
-use crate::Name;
 use crate::query_word::{is_number, is_query_word};
+use crate::{Answer, Name};
 
 /// What a word may be.
 #[derive(Clone, Copy)]
@@ -18,6 +18,8 @@ pub enum Kind {
     Query,
     /// A number.
     Number,
+    /// Letters that give `fsck` this answer.
+    Letters(Answer),
 }
 
 impl Kind {
@@ -31,6 +33,7 @@ impl Kind {
             Kind::Device => may_be_device(word),
             Kind::Query => is_query_word(word),
             Kind::Number => is_number(word),
+            Kind::Letters(answer) => answer.is_given_by(word),
         }
     }
 }

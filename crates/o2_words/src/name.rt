@@ -20,6 +20,12 @@ pub enum Name {
     Journals,
     /// `-S`
     Size,
+    /// `-f`
+    Force,
+    /// `-n`
+    No,
+    /// `-y`
+    Yes,
 }
 
 impl Name {
@@ -38,6 +44,9 @@ impl Name {
             Name::Slots => "-N",
             Name::Journals => "-J",
             Name::Size => "-S",
+            Name::Force => "-f",
+            Name::No => "-n",
+            Name::Yes => "-y",
         }
     }
 

@@ -21,7 +21,7 @@ fn fault_of(alloc: Global, line: &str) -> Result<Option<WordFault>, AllocError> 
 }
 
 // Each line of words, and the place at which it leaves the command lines.
-const USAGE: [(&str, u32); 40] = [
+const USAGE: [(&str, u32); 63] = [
     ("", 0),
     ("Tunefs", 0),
     ("tunefs ", 0),
@@ -62,13 +62,40 @@ const USAGE: [(&str, u32); 40] = [
     ("debugfs|-R|ls /a b", 3),
     ("debugfs|-R|cat //a|-d", 3),
     ("debugfs|-R|stats|disk|more", 4),
+    ("fsck", 1),
+    ("fsck|disk", 1),
+    ("fsck|n|disk", 1),
+    ("fsck|-|disk", 1),
+    ("fsck|-N|disk", 1),
+    ("fsck|-r|disk", 1),
+    ("fsck|-ny|disk", 1),
+    ("fsck|-ff|disk", 1),
+    ("fsck|-fny|disk", 1),
+    ("fsck|-f|disk", 2),
+    ("fsck|-n", 2),
+    ("fsck|-n|-d", 2),
+    ("fsck|-n|-n|disk", 2),
+    ("fsck|-n|-y|disk", 2),
+    ("fsck|-nf|-f|disk", 2),
+    ("fsck|-f|-fn|disk", 2),
+    ("fsck|-f|-f|-n|disk", 2),
+    ("fsck|-n|disk|more", 3),
+    ("fsck|-f|-n", 3),
+    ("fsck|-f|-n|-y|disk", 3),
+    ("fsck|-y|-f|-f|disk", 3),
+    ("fsck|-yf|disk|-n", 3),
+    ("fsck|-y|-f|disk|disk", 4),
 ];
 
 // Lines that a later version serves.
-const LATER: [&str; 11] = [
+const LATER: [&str; 15] = [
     "mkfs",
     "mkfs|-b|4096|disk",
-    "fsck|-n|-y|disk",
+    "fsck|-y|disk",
+    "fsck|-fy|disk",
+    "fsck|-yf|disk",
+    "fsck|-f|-y|disk",
+    "fsck|-y|-f|disk",
     "debugfs|-R|stats|disk",
     "debugfs|-R|refcount /a b/c|disk",
     "debugfs|-R|icheck 123456789012345678|disk",
@@ -124,6 +151,7 @@ fn reads_words(rt: HostRuntime) -> Result<(), Fail> {
                 device: _device,
             },
         ) => assert!(rt; false),
+        Ok(Command::Check { device: _device }) => assert!(rt; false),
         Err(_fault) => assert!(rt; false),
     }
     for asked in ["ls /", "stat /a b/c", "cat //a"] {
@@ -137,6 +165,40 @@ fn reads_words(rt: HostRuntime) -> Result<(), Fail> {
             Ok(
                 Command::Label {
                     label: _label,
+                    device: _device,
+                },
+            ) => assert!(rt; false),
+            Ok(Command::Check { device: _device }) => assert!(rt; false),
+            Err(_fault) => assert!(rt; false),
+        }
+    }
+    Ok(())
+}
+
+// Lines that check a volume, and the place of its device.
+const CHECKS: [(&str, u32); 5] = [
+    ("fsck|-n|disk", 2),
+    ("fsck|-fn|disk", 2),
+    ("fsck|-nf|disk", 2),
+    ("fsck|-f|-n|disk", 3),
+    ("fsck|-n|-f|disk", 3),
+];
+
+#[test]
+fn reads_checks(rt: HostRuntime) -> Result<(), Fail> {
+    let alloc = rt.alloc();
+    for (line, place) in CHECKS {
+        match read_words(alloc, &words_of(alloc, line)?) {
+            Ok(Command::Check { device }) => assert_eq!(rt; device, place, "{line}"),
+            Ok(
+                Command::Label {
+                    label: _label,
+                    device: _device,
+                },
+            ) => assert!(rt; false),
+            Ok(
+                Command::Debug {
+                    query: _query,
                     device: _device,
                 },
             ) => assert!(rt; false),

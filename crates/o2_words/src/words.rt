@@ -7,15 +7,16 @@ ghost use Rattle.o2_words.specs.QueryWords.{Asks, IsForLater};
 
 use crate::command::{Command, WordFault};
 use crate::form::FORMS;
+use crate::fsck_line::{last_place, read_fsck};
 use crate::place::farthest;
 use crate::query_word::{Asked, read_query_word};
-use crate::{Kind, Name};
+use crate::{Answer, Kind, Name};
 use o2_debug::Query;
 use o2_dir::PathText;
 use o2_view::Bytes;
 use std::alloc::{AllocError, Global};
 
-// The place of the device's name, in each command line.
+// The place of the device's name, in each command line of `tunefs` and of `debugfs`.
 const DEVICE: u32 = 3;
 
 /// Reads the words of a command line, or tells why they are not served.
@@ -39,6 +40,15 @@ pub fn read_words(alloc: Global, words: &[String]) -> Result<Command, WordFault>
             }),
             Err(fault) => Err(fault),
         };
+    }
+    match read_fsck(words) {
+        Some(Answer::No) => {
+            return Ok(Command::Check {
+                device: last_place(words),
+            });
+        }
+        Some(Answer::Yes) => return Err(WordFault::Later),
+        None => {}
     }
     let place = farthest(alloc, &FORMS, words)?;
     Err(WordFault::Usage {
@@ -119,9 +129,9 @@ fn is_not_built(words: &[String]) -> bool
 }
 
 fn is_unbuilt_tool(word: &str) -> bool
-    ensures { IsTrue result ↔ ((word.now ≡ codes "mkfs") ⊎ (word.now ≡ codes "fsck") ⊎ (word.now ≡ codes "sample")) }
+    ensures { IsTrue result ↔ ((word.now ≡ codes "mkfs") ⊎ (word.now ≡ codes "sample")) }
 {
-    Name::Mkfs.is(word) || Name::Fsck.is(word) || Name::Sample.is(word)
+    Name::Mkfs.is(word) || Name::Sample.is(word)
 }
 
 fn is_unbuilt_option(word: &str) -> bool
