@@ -1,5 +1,5 @@
 -- What each cause is: its class, its status, and the line that it prints.
-use Rattle.std.specs.Prelude.{◌≡◌, ◌⊎◌, List, [], ℕ, ◌++◌, codes, decimal}
+use Rattle.std.specs.Prelude.{◌≡◌, ◌⊎◌, List, [], ℕ, ◌++◌, codes, bytes_eq, decimal, if◌then◌else◌}
 use Rattle.o2_disk.specs.declared.disk.AttachFault.{AttachFault}
 use Rattle.o2_disk.specs.declared.disk.AttachFault.TheVariants.{NoMemory as NoMemoryForName, Failed as NotAttached}
 use Rattle.o2_model.specs.Names.{check_name, oddity_text}
@@ -7,7 +7,7 @@ use Rattle.o2_view.specs.Texts.{which_text}
 use Rattle.o2_cause.specs.declared.class.Class.{Class}
 use Rattle.o2_cause.specs.declared.class.Class.TheVariants.{Done, Refusal, Fault}
 use Rattle.o2_cause.specs.declared.cause.Cause.{Cause}
-use Rattle.o2_cause.specs.declared.cause.Cause.TheVariants.{Fine, Usage, Later, NotOcfs2, Unsupported, Absent, WrongKind, Bad, Range, DeviceFault, OutputFault, NoMemory}
+use Rattle.o2_cause.specs.declared.cause.Cause.TheVariants.{Fine, Uncorrected, Usage, Later, NotOcfs2, Unsupported, Absent, WrongKind, Bad, Range, DeviceFault, OutputFault, NoMemory}
 
 pub record Row : Type 0 where
   pub class : Class
@@ -16,14 +16,19 @@ pub record Row : Type 0 where
   -- the line with its newline, or nothing
   pub line : List ℕ
 
+-- the status by which a tool refuses a volume
+abbrev pub volume_status : List ℕ → ℕ
+volume_status tool = if bytes_eq tool (codes "fsck") then 4 else 1
+
 -- the row of each cause, where the first word is this tool
 abbrev pub row : List ℕ → Cause → Row
 row tool Fine = record { class = Done; status = 0; line = [] }
+row tool (Uncorrected check block) = record { class = Done; status = 4; line = [] }
 row tool OutputFault = record { class = Done; status = 65; line = [] }
 row tool (Usage place) = record { class = Refusal; status = 16; line = codes "usage: word " ++ (decimal place ++ codes "\n") }
 row tool Later = record { class = Refusal; status = 1; line = tool ++ codes ": not built yet\n" }
-row tool NotOcfs2 = record { class = Refusal; status = 1; line = tool ++ codes ": not an OCFS2 volume\n" }
-row tool (Unsupported what block) = record { class = Refusal; status = 1; line = tool ++ (codes ": unsupported: " ++ (oddity_text what ++ (codes " block " ++ (decimal block ++ codes "\n")))) }
+row tool NotOcfs2 = record { class = Refusal; status = volume_status tool; line = tool ++ codes ": not an OCFS2 volume\n" }
+row tool (Unsupported what block) = record { class = Refusal; status = volume_status tool; line = tool ++ (codes ": unsupported: " ++ (oddity_text what ++ (codes " block " ++ (decimal block ++ codes "\n")))) }
 row tool (Absent path) = record { class = Refusal; status = 1; line = codes "debugfs: no such path: " ++ (path ++ codes "\n") }
 row tool (WrongKind path) = record { class = Refusal; status = 1; line = codes "debugfs: wrong kind: " ++ (path ++ codes "\n") }
 row tool (Bad check block) = record { class = Refusal; status = 1; line = codes "debugfs: damaged: " ++ (check_name check ++ (codes " block " ++ (decimal block ++ codes "\n"))) }
@@ -35,10 +40,11 @@ row tool NoMemory = record { class = Fault; status = 64; line = [] }
 abbrev pub cause_line : List ℕ → Cause → List ℕ
 cause_line tool cause = (row tool cause).line
 
--- its status and its class, which are the same for all tools
-abbrev pub status_of : Cause → ℕ
-status_of cause = (row [] cause).status
+-- and its status
+abbrev pub status_of : List ℕ → Cause → ℕ
+status_of tool cause = (row tool cause).status
 
+-- its class, which is the same for all tools
 abbrev pub class_of : Cause → Class
 class_of cause = (row [] cause).class
 

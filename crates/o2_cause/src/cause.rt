@@ -1,6 +1,6 @@
 // How a run ends.
 ghost use Rattle.std.specs.Prelude.{◌≡◌, ◌++◌, codes, IfOk, string_bytes};
-ghost use Rattle.o2_cause.specs.Causes.{cause_line};
+ghost use Rattle.o2_cause.specs.Causes.{cause_line, volume_status};
 
 use crate::Class;
 use o2_dir::PathText;
@@ -14,6 +14,8 @@ use std::alloc::{AllocError, Global};
 pub enum Cause {
     /// All was done.
     Fine,
+    /// The volume was checked, it fails this check at this block, the first that it fails, and that was not mended.
+    Uncorrected { check: Check, block: u64 },
     /// The words are no command line. They are in order up to the word of this place, counted from 0.
     Usage { place: u32 },
     /// The command, or the volume, is one that a later version serves.
@@ -46,7 +48,7 @@ impl Cause {
         ensures { result ≡ class_of self.now }
     {
         match self {
-            Cause::Fine | Cause::OutputFault => Class::Done,
+            Cause::Fine | Cause::Uncorrected { .. } | Cause::OutputFault => Class::Done,
             Cause::DeviceFault | Cause::NoMemory => Class::Fault,
             Cause::Usage { .. }
             | Cause::Later
@@ -59,19 +61,19 @@ impl Cause {
         }
     }
 
-    /// The status that the program ends with.
-    pub fn status(&self) -> u8
-        ensures { result ≡ status_of self.now }
+    /// The status that the program ends with, where the first word is this tool.
+    pub fn status(&self, tool: &str) -> u8
+        ensures { result ≡ status_of tool.now self.now }
     {
         match self {
             Cause::Fine => 0,
+            Cause::NotOcfs2 | Cause::Unsupported { .. } => refusal_status(tool),
             Cause::Later
-            | Cause::NotOcfs2
-            | Cause::Unsupported { .. }
             | Cause::Absent { .. }
             | Cause::WrongKind { .. }
             | Cause::Bad { .. }
             | Cause::Range { .. } => 1,
+            Cause::Uncorrected { .. } => 4,
             Cause::DeviceFault => 8,
             Cause::Usage { .. } => 16,
             Cause::NoMemory => 64,
@@ -86,7 +88,9 @@ impl Cause {
         ensures { IfOk result (λ line. string_bytes line ≡ cause_line tool.now self.now) }
     {
         match self {
-            Cause::Fine | Cause::OutputFault | Cause::NoMemory => Ok(String::new(alloc)),
+            Cause::Fine | Cause::Uncorrected { .. } | Cause::OutputFault | Cause::NoMemory => Ok(
+                String::new(alloc),
+            ),
             Cause::Usage { place } => format!(in alloc; "usage: word {place}\n"),
             Cause::Later => tool_line(alloc, tool, "not built yet"),
             Cause::NotOcfs2 => tool_line(alloc, tool, "not an OCFS2 volume"),
@@ -100,6 +104,13 @@ impl Cause {
             Cause::DeviceFault => tool_line(alloc, tool, "device fault"),
         }
     }
+}
+
+// The status by which a tool refuses a volume.
+fn refusal_status(tool: &str) -> u8
+    ensures { result ≡ volume_status tool.now }
+{
+    if tool == "fsck" { 4 } else { 1 }
 }
 
 // What a tool says.

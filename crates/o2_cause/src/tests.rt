@@ -43,6 +43,7 @@ fn ends_by_each_cause(rt: HostRuntime) -> Result<(), Fail> {
     // the causes, their classes, their statuses and the lines that they print
     for (cause, class, status, line) in [
         (Cause::Fine, Class::Done, 0, ""),
+        (Cause::Uncorrected { check, block: 9 }, Class::Done, 4, ""),
         (Cause::OutputFault, Class::Done, 65, ""),
         (
             Cause::Usage { place: 3 },
@@ -93,11 +94,24 @@ fn ends_by_each_cause(rt: HostRuntime) -> Result<(), Fail> {
         let mut out = MemSink::new(alloc);
         assert_eq!(rt; cause.class(), class, "{line}");
         assert_eq!(rt;
-            put_line(alloc, "tool", cause, &mut out).status(),
+            put_line(alloc, "tool", cause, &mut out).status("tool"),
             status,
             "{line}"
         );
         assert_eq!(rt; out.bytes(), line.as_bytes(), "{line}");
     }
     Ok(())
+}
+
+// The status by which fsck refuses a volume is its own.
+#[test]
+fn fsck_refuses_by_its_own_status(rt: HostRuntime) {
+    let unsupported = Cause::Unsupported {
+        what: Oddity::Quota,
+        block: 2,
+    };
+    assert_eq!(rt; Cause::NotOcfs2.status("fsck"), 4);
+    assert_eq!(rt; unsupported.status("fsck"), 4);
+    assert_eq!(rt; unsupported.status("tunefs"), 1);
+    assert_eq!(rt; Cause::Later.status("fsck"), 1);
 }

@@ -91,6 +91,38 @@ further_fail v holds = ap (λ ps. first_or_else ps (pairs v further)) (sym (skel
 pub not_both : (v : Volume) (c : Check) (b : ℕ) → FailsFirst skeleton_checks v c b → HasSkeleton v → ⊥
 not_both v c b fails holds = let both = sym (none_own v skeleton_checks holds) ∙ (first_own v skeleton_checks c b fails).1 in cc
 
+-- ---- where nothing fails
+some_with : (n : ℕ) (ms : List ℕ) → with_number n ms ≡ [] → ⊥
+some_with n [] none = cc none
+some_with n (m ∷ ms) none = elim (cases_Bool (nat_lt n m)) [
+  | inl below ↦ let e = rw below at none in cc e
+  | inr not_below ↦ elim (cases_Bool (n == m)) [
+    | inl same ↦ let e = rw (not_below, same) at none in cc e
+    | inr other ↦ let e = rw (not_below, other) at none in cc e
+  ]
+]
+
+none_rising : (ns : List ℕ) → rising ns ≡ [] → ns ≡ []
+none_rising [] none = refl
+none_rising (n ∷ ns) none = absurd (some_with n (rising ns) none)
+
+none_mapped : {X Y : Type 0} (f : X → Y) (xs : List X) (ys : List Y) → map f xs ++ ys ≡ [] → (xs ≡ []) × (ys ≡ [])
+none_mapped f [] ys none = (refl, none)
+none_mapped f (x ∷ xs) ys none = absurd (let no : ⊥ = cc none in no)
+
+own_hold : (v : Volume) (cs : List OwnCheck) → own_pairs v cs ≡ [] → NoneFails cs v
+own_hold v [] none = tt
+own_hold v (o ∷ os) none = let both = none_mapped (λ b. (o.check, b)) (rising (o.faults v)) (own_pairs v os) none in (none_rising (o.faults v) both.0, own_hold v os both.1)
+
+none_first : (ps os : List (Check × ℕ)) → first_or_else ps os ≡ [] → ps ≡ []
+none_first [] os none = refl
+none_first (p ∷ ps) os none = absurd (let no : ⊥ = cc none in no)
+
+-- the skeleton holds
+pub skeleton_of_none : (v : Volume) → failing v ≡ [] → HasSkeleton v
+unfolding failing
+skeleton_of_none v none = own_hold v skeleton_checks (sym (skeleton_pairs v) ∙ none_first (pairs v skeleton) (pairs v further) none)
+
 -- ---- a check of the skeleton
 none_at : (v : Volume) (k c : Check) → k ≡ c → faults v c ≡ [] → rising [] ≡ rising (faults v k)
 none_at v k c same none = ap rising (sym none) ∙ ap (λ d. rising (faults v d)) (sym same)

@@ -42,6 +42,13 @@ impl Report {
         &self.pairs
     }
 
+    /// The failing checks, taken out of it.
+    pub fn into_pairs(self) -> Pairs
+        ensures { result ≡ self.pairs }
+    {
+        self.pairs
+    }
+
     /// How many live entries of the tree name the inode, the dots among them.
     pub fn links(&self, inode: u64) -> u64
         ensures { result ≡ names_in self.now inode }

@@ -38,7 +38,7 @@ fn answers_a_query(rt: HostRuntime) -> Result<(), Fail> {
         };
         assert!(rt; is_path(query.path()));
         let cause = run_query(alloc, &mut disk, "disk", query, &mut out);
-        assert_eq!(rt; cause.status(), status, "{text}");
+        assert_eq!(rt; cause.status("debugfs"), status, "{text}");
         assert_eq!(rt; out.bytes(), lines.as_bytes(), "{text}");
     }
     Ok(())

@@ -12,13 +12,13 @@ pub struct Done {
 }
 
 impl Done {
-    /// The end by this cause, with its status.
-    pub fn by(cause: Cause) -> Self
-        ensures status { result.status ≡ status_of cause }
+    /// The end by this cause, with its status where the first word is this tool.
+    pub fn by(tool: &str, cause: Cause) -> Self
+        ensures status { result.status ≡ status_of tool.now cause }
         ensures cause { result.cause ≡ cause }
     {
         Done {
-            status: cause.status(),
+            status: cause.status(tool),
             cause,
         }
     }

@@ -1,7 +1,11 @@
 //! The program: from the words of a command line to the tool that they ask for.
 #![tactic(auto)]
 
+#[cfg(test)]
+mod check_tests;
 mod done;
+#[cfg(test)]
+mod foreign_tests;
 mod program;
 #[cfg(test)]
 mod tests;

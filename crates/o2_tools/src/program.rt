@@ -5,16 +5,19 @@ ghost use Rattle.o2_disk.specs.Output.{FailsLast, StopsAtFault};
 ghost use Rattle.o2_model.specs.Image.{Image};
 ghost use Rattle.o2_cause.specs.Causes.{cause_line, status_of, IsRefusal};
 ghost use Rattle.o2_cause.specs.Taken.{Takes, TakesSome};
-ghost use Rattle.o2_words.specs.CommandLine.{texts, IsTunefs, IsDebugfs, IsLine, IsLaterLine, tool_of, label_of, device_of};
-ghost use Rattle.o2_words.specs.Commands.{AsksFor, AsksQuery};
+ghost use Rattle.o2_words.specs.CommandLine.{texts, IsTunefs, IsDebugfs, IsCheckLine, IsMendLine, IsLine, IsLaterLine, tool_of, label_of, device_of, checked_device_of};
+ghost use Rattle.o2_words.specs.Commands.{AsksFor};
 ghost use Rattle.o2_tunefs.specs.LabelRun.{LabelRun};
 ghost use Rattle.o2_debugfs.specs.QueryRun.{QueryRun};
+ghost use Rattle.o2_fsck.specs.CheckRun.{CheckRun};
 ghost use Rattle.o2_tools.specs.Refused.{cause_of, RefusesBy};
+ghost use Rattle.o2_tools.specs.Served.{IsServedLine};
 
 use crate::Done;
 use o2_cause::{Cause, put_line};
 use o2_debugfs::run_query;
 use o2_disk::{Disk, Sink};
+use o2_fsck::run_check;
 use o2_tunefs::run_label;
 use o2_words::{Command, WordFault, read_words};
 use std::alloc::Global;
@@ -33,28 +36,31 @@ pub fn run<D: Disk, E: Disk, K: Sink>(
     now: u64,
     random: &[u8; 24],
 ) -> Done
-    ensures status { result.status ≡ status_of result.cause }
+    ensures status { result.status ≡ status_of (tool_of (texts words.now)) result.cause }
 
     // Words that are no command line are refused for what they are, and a command line is not. One of debugfs may ask
-    // for what waits for a later version.
+    // for what waits for a later version, and one of fsck that mends does.
     ensures words { (IsLine (texts words.now) → ⊥) → RefusesBy (texts words.now) result.cause }
     ensures line { IsLine (texts words.now) → (place : ℕ) → result.cause ≢ Cause.Usage place }
-    ensures later { IsLaterLine (texts words.now) → (result.cause ≡ Cause.Later) ⊎ (result.cause ≡ Cause.NoMemory) }
+    ensures later { (IsLaterLine (texts words.now) ⊎ IsMendLine (texts words.now)) → (result.cause ≡ Cause.Later) ⊎ (result.cause ≡ Cause.NoMemory) }
 
-    // What each tool promises: a command line of tunefs gives a label, and one of debugfs is answered.
+    // What each tool promises: a command line of tunefs gives a label, one of debugfs is answered, and one of fsck that asks for
+    // no change tells what fails.
     ensures label { IsTunefs (texts words.now) → LabelRun (label_of (texts words.now)) (device_of (texts words.now)) (D.state device.old) (D.state device.new) (K.state out.old) (K.state out.new) result.cause }
     ensures query { (query : _) → AsksFor query (texts words.now) → QueryRun query (device_of (texts words.now)) (D.state device.old) (D.state device.new) (K.state out.old) (K.state out.new) result.cause }
 
+    ensures check { IsCheckLine (texts words.now) → CheckRun (checked_device_of (texts words.now)) (D.state device.old) (D.state device.new) (K.state out.old) (K.state out.new) result.cause }
+
     // Other words leave the device alone, and the sink takes the cause's line, and its first bytes where it fails.
-    ensures alone { (IsTunefs (texts words.now) → ⊥) → (AsksQuery (texts words.now) → ⊥) → device.new ≡ device.old }
-    ensures output { (IsTunefs (texts words.now) → ⊥) → (AsksQuery (texts words.now) → ⊥) → (Rose (K.state out.old).faults (K.state out.new).faults → ⊥) → Takes (K.state out.old) (K.state out.new) (cause_line (tool_of (texts words.now)) result.cause) }
-    ensures front { (IsTunefs (texts words.now) → ⊥) → (AsksQuery (texts words.now) → ⊥) → TakesSome (K.state out.old) (K.state out.new) (cause_line (tool_of (texts words.now)) result.cause) }
+    ensures alone { (IsServedLine (texts words.now) → ⊥) → device.new ≡ device.old }
+    ensures output { (IsServedLine (texts words.now) → ⊥) → (Rose (K.state out.old).faults (K.state out.new).faults → ⊥) → Takes (K.state out.old) (K.state out.new) (cause_line (tool_of (texts words.now)) result.cause) }
+    ensures front { (IsServedLine (texts words.now) → ⊥) → TakesSome (K.state out.old) (K.state out.new) (cause_line (tool_of (texts words.now)) result.cause) }
 
     // A refusal writes nothing, whatever the tool, and where nothing was pending when the run began a crash at any moment
-    // of it leaves the volume of before. A debugfs run writes nothing at all.
+    // of it leaves the volume of before. A run of debugfs, or of fsck that asks for no change, writes nothing at all.
     ensures refused { IsRefusal result.cause → ReadsOnly (D.state device.old) (D.state device.new) }
     ensures kept { IsRefusal result.cause → (I : Image) → IsSettled (D.state device.old) I → LeavesOnly (D.state device.old) (D.state device.new) (λ X. X ≡ I) }
-    ensures reads { IsDebugfs (texts words.now) → ReadsOnly (D.state device.old) (D.state device.new) }
+    ensures reads { (IsDebugfs (texts words.now) ⊎ IsCheckLine (texts words.now)) → ReadsOnly (D.state device.old) (D.state device.new) }
 
     // A device fault comes with a fault that the device has told.
     ensures fault { result.cause ≡ Cause.DeviceFault → Rose (D.state device.old).faults (D.state device.new).faults }
@@ -86,8 +92,12 @@ pub fn run<D: Disk, E: Disk, K: Sink>(
             let name = words[place as usize].as_str();
             run_query(alloc, device, name, query, out)
         }
+        Ok(Command::Check { device: place }) => {
+            let name = words[place as usize].as_str();
+            run_check(alloc, device, name, out)
+        }
     };
-    Done::by(cause)
+    Done::by(first_word(words), cause)
 }
 
 // The first word, or nothing where there is none.

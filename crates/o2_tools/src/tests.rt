@@ -99,7 +99,7 @@ fn with_label(sector: &[u8; 512], label: &[u8]) -> [u8; 512] {
 }
 
 // Each line of words, parted by bars, and the line by which it is refused.
-const REFUSED: [(&str, &str); 51] = [
+const REFUSED: [(&str, &str); 54] = [
     ("", "usage: word 0\n"),
     ("Tunefs", "usage: word 0\n"),
     ("tunefs ", "usage: word 0\n"),
@@ -129,7 +129,10 @@ const REFUSED: [(&str, &str); 51] = [
     ("tunefs|-L|vol|disk|-N|4", "usage: word 4\n"),
     ("mkfs", "mkfs: not built yet\n"),
     ("mkfs|-b|4096|disk", "mkfs: not built yet\n"),
-    ("fsck|-n|-y|disk", "fsck: not built yet\n"),
+    ("fsck|-n|-y|disk", "usage: word 2\n"),
+    ("fsck|-f|disk", "usage: word 2\n"),
+    ("fsck|-f|-n", "usage: word 3\n"),
+    ("fsck|-fy|disk", "fsck: not built yet\n"),
     ("debugfs", "usage: word 1\n"),
     ("debugfs|disk", "usage: word 1\n"),
     ("debugfs|-R", "usage: word 2\n"),

@@ -20,7 +20,7 @@ fn gives_a_label(rt: HostRuntime) -> Result<(), Fail> {
     let mut disk = volume(&rt, alloc)?;
     let mut out = MemSink::new(alloc);
     let cause = run_label(alloc, &mut disk, "disk", b"vol", &mut out);
-    assert_eq!(rt; cause.status(), 0);
+    assert_eq!(rt; cause.status("tunefs"), 0);
     assert_eq!(rt; out.bytes(), b"tunefs: done\n".as_slice());
     // the label, in the superblock of a volume of blocks of 4 KiB
     let mut sector = [0; 512];
@@ -30,7 +30,7 @@ fn gives_a_label(rt: HostRuntime) -> Result<(), Fail> {
     // a label that is too long
     let mut out = MemSink::new(alloc);
     let cause = run_label(alloc, &mut disk, "disk", &[b'a'; 65], &mut out);
-    assert_eq!(rt; cause.status(), 1);
+    assert_eq!(rt; cause.status("tunefs"), 1);
     assert_eq!(rt; out.bytes(), b"tunefs: out of range: label 65\n".as_slice());
     Ok(())
 }

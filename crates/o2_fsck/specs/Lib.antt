@@ -1,0 +1,5 @@
+pub mod Reports
+pub mod Verdicts
+pub mod Judged
+pub mod Ends
+pub mod CheckRun
