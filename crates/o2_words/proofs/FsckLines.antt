@@ -49,17 +49,17 @@ apart answer (a ∷ []) (b ∷ []) first second is is' letters = elim letters [
 apart answer (a ∷ []) (b ∷ c ∷ m) first second is is' letters = absurd (omega (arith, at_most_two answer (a ∷ b ∷ c ∷ (m ++ [])) letters))
 apart answer (a ∷ b ∷ l) (c ∷ m) first second is is' letters = absurd (omega (arith, at_most_two answer (a ∷ b ∷ (l ++ (c ∷ (m ++ [])))) letters, length-append l (c ∷ (m ++ []))))
 
-answers : (answer : Answer) (letters : List (List ℕ)) (between : Words) → 0 < length between → AllZip IsLetterWord letters between → GivesAnswer answer (concat letters) → Answers answer between
-answers answer letters [] some each gives = absurd (omega (arith, some))
-answers answer [] (first ∷ between) some each gives = absurd each
-answers answer (l ∷ []) (first ∷ []) some each gives = inl (first, refl, record { letters = l; is = each.0; gives = subst (GivesAnswer answer) (append-nil l) gives })
-answers answer (l ∷ []) (first ∷ second ∷ between) some each gives = absurd each.1
-answers answer (l ∷ m ∷ letters) (first ∷ []) some each gives = absurd each.1
-answers answer (l ∷ m ∷ []) (first ∷ second ∷ []) some each gives =
+answers_of : (answer : Answer) (letters : List (List ℕ)) (between : Words) → 0 < length between → AllZip IsLetterWord letters between → GivesAnswer answer (concat letters) → Answers answer between
+answers_of answer letters [] some each gives = absurd (omega (arith, some))
+answers_of answer [] (first ∷ between) some each gives = absurd each
+answers_of answer (l ∷ []) (first ∷ []) some each gives = inl (first, refl, record { letters = l; is = each.0; gives = subst (GivesAnswer answer) (append-nil l) gives })
+answers_of answer (l ∷ []) (first ∷ second ∷ between) some each gives = absurd each.1
+answers_of answer (l ∷ m ∷ letters) (first ∷ []) some each gives = absurd each.1
+answers_of answer (l ∷ m ∷ []) (first ∷ second ∷ []) some each gives =
     inr (first, (second, refl, apart answer l m first second each.0 each.1.0 (written answer (l ++ (m ++ [])) (all_letters (l ∷ m ∷ []) (first ∷ second ∷ []) each) gives)))
-answers answer (l ∷ m ∷ []) (first ∷ second ∷ third ∷ between) some each gives = absurd each.1.1
-answers answer (l ∷ m ∷ n ∷ letters) (first ∷ second ∷ []) some each gives = absurd each.1.1
-answers answer (l ∷ m ∷ n ∷ letters) (first ∷ second ∷ third ∷ between) some each gives =
+answers_of answer (l ∷ m ∷ []) (first ∷ second ∷ third ∷ between) some each gives = absurd each.1.1
+answers_of answer (l ∷ m ∷ n ∷ letters) (first ∷ second ∷ []) some each gives = absurd each.1.1
+answers_of answer (l ∷ m ∷ n ∷ letters) (first ∷ second ∷ third ∷ between) some each gives =
     let all = l ++ (m ++ (n ++ concat letters)) in
     let few : length all ≤ 2 = at_most_two answer all (written answer all (all_letters (l ∷ m ∷ n ∷ letters) (first ∷ second ∷ third ∷ between) each) gives) in
     absurd (omega (arith, few, each.0.some, each.1.0.some, each.1.1.0.some, length-append l (m ++ (n ++ concat letters)), length-append m (n ++ concat letters), length-append n (concat letters)))
@@ -84,7 +84,7 @@ pub record InTwo (answer : Answer) (words : Words) : Type 0 where
 
 -- a line of fsck has one or two
 pub one_or_two : (answer : Answer) (words : Words) → IsFsckOf answer words → InOne answer words ⊎ InTwo answer words
-one_or_two answer words (letters, (device, line)) = elim (answers answer letters line.between line.some line.each line.gives) [
+one_or_two answer words (letters, (device, line)) = elim (answers_of answer letters line.between line.some line.each line.gives) [
   | inl (word, is, gives) ↦ inl (record { word = word; device = device; is = shown is; gives = gives; names = line.names })
   | inr (first, (second, is, both)) ↦ inr (record { first = first; second = second; device = device; is = shown is; apart = both; names = line.names })
 ]
@@ -94,14 +94,20 @@ one_or_two answer words (letters, (device, line)) = elim (answers answer letters
 
 -- and each of these is one
 pub in_one : (answer : Answer) (word device : List ℕ) → IsAnswerWord answer word → IsDevice device → IsFsckOf answer (codes "fsck" ∷ word ∷ device ∷ [])
-in_one answer word device gives names = (gives.letters ∷ [], (device, record {
-  between = word ∷ [];
-  form = refl;
-  some = omega arith;
-  each = (gives.is, tt);
-  gives = subst (GivesAnswer answer) (sym (append-nil gives.letters)) gives.gives;
-  names = names;
-}))
+in_one answer word device gives names = (
+  gives.letters ∷ [],
+  (
+    device,
+    record {
+      between = word ∷ [];
+      form = refl;
+      some = omega arith;
+      each = (gives.is, tt);
+      gives = subst (GivesAnswer answer) (sym (append-nil gives.letters)) gives.gives;
+      names = names;
+    },
+  ),
+)
 
 -- the words of f alone, and of the answer's letter alone
 word_of_f : (word : List ℕ) → word ≡ codes "-f" → IsLetterWord (102 ∷ []) word
@@ -111,22 +117,34 @@ word_of_answer : (answer : Answer) (word : List ℕ) → word ≡ answer_text an
 word_of_answer answer word is = subst (IsLetterWord (letter_of answer ∷ [])) (sym is) (word_of_one (letter_of answer) (is_letter answer))
 
 pub in_two : (answer : Answer) (first second device : List ℕ) → AreApart answer first second → IsDevice device → IsFsckOf answer (codes "fsck" ∷ first ∷ second ∷ device ∷ [])
-in_two answer first second device (inl (f, a)) names = ((102 ∷ []) ∷ (letter_of answer ∷ []) ∷ [], (device, record {
-  between = first ∷ second ∷ [];
-  form = refl;
-  some = omega arith;
-  each = (word_of_f first f, (word_of_answer answer second a, tt));
-  gives = gives_behind answer;
-  names = names;
-}))
-in_two answer first second device (inr (a, f)) names = ((letter_of answer ∷ []) ∷ (102 ∷ []) ∷ [], (device, record {
-  between = first ∷ second ∷ [];
-  form = refl;
-  some = omega arith;
-  each = (word_of_answer answer first a, (word_of_f second f, tt));
-  gives = gives_before answer;
-  names = names;
-}))
+in_two answer first second device (inl (f, a)) names = (
+  (102 ∷ []) ∷ (letter_of answer ∷ []) ∷ [],
+  (
+    device,
+    record {
+      between = first ∷ second ∷ [];
+      form = refl;
+      some = omega arith;
+      each = (word_of_f first f, (word_of_answer answer second a, tt));
+      gives = gives_behind answer;
+      names = names;
+    },
+  ),
+)
+in_two answer first second device (inr (a, f)) names = (
+  (letter_of answer ∷ []) ∷ (102 ∷ []) ∷ [],
+  (
+    device,
+    record {
+      between = first ∷ second ∷ [];
+      form = refl;
+      some = omega arith;
+      each = (word_of_answer answer first a, (word_of_f second f, tt));
+      gives = gives_before answer;
+      names = names;
+    },
+  ),
+)
 
 -- ---- the place of the device
 pub device_is : (answer : Answer) (letters : List (List ℕ)) (device : List ℕ) (words : Words) → IsFsckLine answer letters device words → checked_device_of words ≡ device
@@ -211,8 +229,8 @@ pub of_four : (answer : Answer) (tool first second device : List ℕ) → IsFsck
 of_four answer tool first second device line = elim (one_or_two answer (tool ∷ first ∷ second ∷ device ∷ []) line) [
   | inl one ↦ absurd (let n = ap length one.is in omega (arith, n))
   | inr two ↦ (
-    let same = two.is in
-    let a : two.first ≡ first = cc same in
-    let b : two.second ≡ second = cc same in
-    (cc same, subst (λ (w : List ℕ). AreApart answer first w) b (subst (λ (w : List ℕ). AreApart answer w two.second) a two.apart), subst IsDevice (sym (cc same)) two.names))
+      let same = two.is in
+      let a : two.first ≡ first = cc same in
+      let b : two.second ≡ second = cc same in
+      (cc same, subst (λ (w : List ℕ). AreApart answer first w) b (subst (λ (w : List ℕ). AreApart answer w two.second) a two.apart), subst IsDevice (sym (cc same)) two.names))
 ]
