@@ -1,3 +1,5 @@
+pub mod FsckLines
+pub mod LetterLemmas
 pub mod Lines
 pub mod NotBuilt
 pub mod OneQuery
@@ -7,3 +9,4 @@ pub mod QueryWordLemmas
 pub mod Readings
 pub mod Refused
 pub mod Shapes
+pub mod Worded

@@ -1,89 +1,16 @@
 -- The lines of the forms that are served.
-use Rattle.std.proofs.Common.{◌≡◌, ◌⊎◌, inl, inr, ⊎_elim, ℕ, zero, suc, ◌+◌, ◌<◌, List, [], ◌∷◌, take, drop, get_or, refl, sym, ◌∙◌, ap, subst, arith, All, HoldsAt}
-use Rattle.std.proofs.lemmas.List.Elements.{All-nil}
-use Rattle.o2_words.specs.Names.{text_of}
-use Rattle.o2_words.specs.Kinds.{Fits, IsDevice}
-use Rattle.o2_words.specs.Parts.{MayBeLeft}
-use Rattle.o2_words.specs.Forms.{Words, Form, left_behind, IsReader, Leads, Matches, ReachesTo}
-use Rattle.o2_words.specs.CommandLine.{IsTunefs, IsDebugfs, IsLine, IsNotBuilt, RefusesWords, forms}
+use Rattle.std.proofs.Common.{◌≡◌, ◌⊎◌, inl, inr, ⊎_elim, ℕ, zero, suc, ◌+◌, ◌<◌, get_or, refl, sym, subst, arith}
+use Rattle.o2_words.specs.Forms.{Words, Form, Matches, ReachesTo}
+use Rattle.o2_words.specs.CommandLine.{IsTunefs, IsDebugfs, IsFsckOf, IsFsck, IsLine, IsNotBuilt, RefusesWords, forms}
 use Rattle.o2_words.specs.declared.command.WordFault.TheVariants.{Usage}
-use Rattle.o2_words.specs.declared.form.TheConstants.{LABEL_FORM, DEBUG_FORM}
-use Rattle.o2_words.specs.declared.form.Part.TheVariants.{One}
-use Rattle.o2_words.specs.declared.kind.Kind.{Kind}
-use Rattle.o2_words.specs.declared.kind.Kind.TheVariants.{Fixed, Text, Device, Query}
-use Rattle.o2_words.specs.declared.name.Name.{Name}
+use Rattle.o2_words.specs.declared.form.TheConstants.{LABEL_FORM, DEBUG_FORM, NO_FORM, FORCE_NO_FORM, NO_FORCE_FORM, YES_FORM, FORCE_YES_FORM, YES_FORCE_FORM}
+use Rattle.o2_words.specs.declared.kind.Kind.TheVariants.{Text, Query}
+use Rattle.o2_words.specs.declared.letters.Answer.TheVariants.{No, Yes}
 use Rattle.o2_words.specs.declared.name.Name.TheVariants.{Tunefs, Debugfs, Label, Ask}
-use Rattle.o2_words.proofs.Readings.{some_part, first_reads}
+use Rattle.o2_words.proofs.FsckLines.{alone_line, force_first_line, force_last_line, line_fsck}
+use Rattle.o2_words.proofs.Worded.{worded, line_worded}
 
--- ---- a part that has to stand
--- a line of a form that begins with it: its word, and a line of what is behind
-pub record Parted (kind : Kind) (form : Form) (words : Words) : Type 0 where
-  pub word : List ℕ
-  pub more : Words
-  pub is : words ≡ word ∷ more
-  pub fits : Fits kind word
-  pub behind : Matches form more
-
--- it reads the word itself
-pub reads_itself : (kind : Kind) (form next : Form) (word : List ℕ) (place : ℕ) → IsReader (One kind ∷ form) word place
-    → HoldsAt (λ part. next ≡ left_behind part (take place (One kind ∷ form)) (drop (place + 1) (One kind ∷ form))) (One kind ∷ form) place → Fits kind word × (next ≡ form)
-reads_itself kind form next word zero reader leaves = (reader.reads some_part, leaves some_part)
-reads_itself kind form next word (suc place) reader leaves = absurd ((reader.passed 0 some_part (omega arith) (omega arith)).may)
-
-pub parted : (kind : Kind) (form : Form) (words : Words) → Matches (One kind ∷ form) words → Parted kind form words
-parted kind form [] (rest, same, may) = absurd (let all : All MayBeLeft (One kind ∷ form) = subst (All MayBeLeft) same may in all 0 some_part (omega arith))
-parted kind form (word ∷ more) (rest, (next, follows, leads), may) =
-    let read = reads_itself kind form next word follows.place follows.reader follows.leaves in
-    record { word = word; more = more; is = refl; fits = read.0; behind = (rest, subst (λ (f : Form). Leads f more rest) read.1 leads, may) }
-
-pub joined : (kind : Kind) (form : Form) (word : List ℕ) (more : Words) → Fits kind word → Matches form more → Matches (One kind ∷ form) (word ∷ more)
-joined kind form word more fits (rest, leads, may) = (rest, (form, first_reads (One kind) form word fits, leads), may)
-
--- the empty form
-pub ended : (words : Words) → Matches [] words → words ≡ []
-ended [] line = refl
-ended (word ∷ more) (rest, (next, follows, leads), may) = absurd (omega (arith, follows.reader.within))
-
-pub empty_line : Matches [] []
-empty_line = ([], refl, All-nil MayBeLeft)
-
--- ---- four parts that have to stand: a tool, an option, what it is given, and a device
-abbrev form_of : Name → Name → Kind → Form
-form_of tool option given = One (Fixed tool) ∷ One (Fixed option) ∷ One given ∷ One Device ∷ []
-
--- a line of such a form
-record Worded (tool option : Name) (given : Kind) (words : Words) : Type 0 where
-  word : List ℕ
-  device : List ℕ
-  is : words ≡ text_of tool ∷ text_of option ∷ word ∷ device ∷ []
-  fits : Fits given word
-  names : IsDevice device
-
-worded : (tool option : Name) (given : Kind) (words : Words) → Matches (form_of tool option given) words → Worded tool option given words
-worded tool option given words line =
-    let first = parted (Fixed tool) (One (Fixed option) ∷ One given ∷ One Device ∷ []) words line in
-    let second = parted (Fixed option) (One given ∷ One Device ∷ []) first.more first.behind in
-    let third = parted given (One Device ∷ []) second.more second.behind in
-    let last = parted Device [] third.more third.behind in
-    record {
-      word = third.word;
-      device = last.word;
-      is = first.is ∙ ap (λ (w : List ℕ). w ∷ first.more) first.fits ∙ ap (λ (ws : Words). text_of tool ∷ ws)
-          (second.is ∙ ap (λ (w : List ℕ). w ∷ second.more) second.fits ∙ ap (λ (ws : Words). text_of option ∷ ws)
-          (third.is ∙ ap (λ (ws : Words). third.word ∷ ws) (last.is ∙ ap (λ (ws : Words). last.word ∷ ws) (ended last.more last.behind))));
-      fits = third.fits;
-      names = last.fits;
-    }
-
-line_worded : (tool option : Name) (given : Kind) (words : Words) → Worded tool option given words → Matches (form_of tool option given) words
-line_worded tool option given words line =
-    subst (Matches (form_of tool option given)) (sym line.is)
-    (joined (Fixed tool) (One (Fixed option) ∷ One given ∷ One Device ∷ []) (text_of tool) (text_of option ∷ line.word ∷ line.device ∷ []) refl
-    (joined (Fixed option) (One given ∷ One Device ∷ []) (text_of option) (line.word ∷ line.device ∷ []) refl
-    (joined given (One Device ∷ []) line.word (line.device ∷ []) line.fits
-    (joined Device [] line.device [] line.names empty_line))))
-
--- ---- the two forms
+-- ---- the forms of tunefs and of debugfs
 label_line : (words : Words) → Matches LABEL_FORM words → IsTunefs words
 label_line words line =
     let found = worded Tunefs Label Text words line in
@@ -101,24 +28,55 @@ line_debug : (words : Words) → IsDebugfs words → Matches DEBUG_FORM words
 line_debug words (word, (device, line)) = line_worded Debugfs Ask Query words (record { word = word; device = device; is = line.form; fits = line.asks; names = line.names })
 
 -- ---- all the forms
-lines_at : (words : Words) (k : ℕ) (form : Form) → k < 2 → get_or forms k form ≡ form → Matches form words → IsTunefs words ⊎ IsDebugfs words
-lines_at words zero form below is line = inl (label_line words (subst (λ (f : Form). Matches f words) (sym is) line))
-lines_at words (suc zero) form below is line = inr (debug_line words (subst (λ (f : Form). Matches f words) (sym is) line))
-lines_at words (suc (suc k)) form below is line = absurd (omega (arith, below))
+-- a line of some tool
+abbrev IsOfTool : Words → Type 0
+IsOfTool words = IsTunefs words ⊎ (IsDebugfs words ⊎ IsFsck words)
 
-pub line_of : (words : Words) → IsLine words → IsTunefs words ⊎ IsDebugfs words
+lines_at : (words : Words) (k : ℕ) (form : Form) → k < 8 → get_or forms k form ≡ form → Matches form words → IsOfTool words
+lines_at words zero form below is line = inl (label_line words (subst (λ (f : Form). Matches f words) (sym is) line))
+lines_at words (suc zero) form below is line = inr (inl (debug_line words (subst (λ (f : Form). Matches f words) (sym is) line)))
+lines_at words (suc (suc zero)) form below is line = inr (inr (No, alone_line No words (subst (λ (f : Form). Matches f words) (sym is) line)))
+lines_at words (suc (suc (suc zero))) form below is line = inr (inr (No, force_first_line No words (subst (λ (f : Form). Matches f words) (sym is) line)))
+lines_at words (suc (suc (suc (suc zero)))) form below is line = inr (inr (No, force_last_line No words (subst (λ (f : Form). Matches f words) (sym is) line)))
+lines_at words (suc (suc (suc (suc (suc zero))))) form below is line = inr (inr (Yes, alone_line Yes words (subst (λ (f : Form). Matches f words) (sym is) line)))
+lines_at words (suc (suc (suc (suc (suc (suc zero)))))) form below is line = inr (inr (Yes, force_first_line Yes words (subst (λ (f : Form). Matches f words) (sym is) line)))
+lines_at words (suc (suc (suc (suc (suc (suc (suc zero))))))) form below is line = inr (inr (Yes, force_last_line Yes words (subst (λ (f : Form). Matches f words) (sym is) line)))
+lines_at words (suc (suc (suc (suc (suc (suc (suc (suc k)))))))) form below is line = absurd (omega (arith, below))
+
+pub line_of : (words : Words) → IsLine words → IsTunefs words ⊎ (IsDebugfs words ⊎ IsFsck words)
 line_of words (k, form, below, is, line) = lines_at words k form below is line
 
-pub is_line : (words : Words) → IsTunefs words ⊎ IsDebugfs words → IsLine words
-is_line words (inl line) = (0, LABEL_FORM, omega arith, refl, line_label words line)
-is_line words (inr line) = (1, DEBUG_FORM, omega arith, refl, line_debug words line)
+-- the forms of fsck
+no_line : (words : Words) → IsFsckOf No words → IsLine words
+no_line words line = elim (line_fsck No words line) [
+  | inl alone ↦ (2, NO_FORM, omega arith, refl, alone)
+  | inr two ↦ elim two [
+    | inl first ↦ (3, FORCE_NO_FORM, omega arith, refl, first)
+    | inr last ↦ (4, NO_FORCE_FORM, omega arith, refl, last)
+  ]
+]
 
--- words that are no line of either, and the place up to which they are in order
-pub usage_of : (words : Words) (place : ℕ) → (IsNotBuilt words → ⊥) → (IsTunefs words → ⊥) → (IsDebugfs words → ⊥) → ReachesTo forms words place → RefusesWords words (Usage place)
-usage_of words place built other others reaches = (
+yes_line : (words : Words) → IsFsckOf Yes words → IsLine words
+yes_line words line = elim (line_fsck Yes words line) [
+  | inl alone ↦ (5, YES_FORM, omega arith, refl, alone)
+  | inr two ↦ elim two [
+    | inl first ↦ (6, FORCE_YES_FORM, omega arith, refl, first)
+    | inr last ↦ (7, YES_FORCE_FORM, omega arith, refl, last)
+  ]
+]
+
+pub is_line : (words : Words) → IsTunefs words ⊎ (IsDebugfs words ⊎ IsFsck words) → IsLine words
+is_line words (inl line) = (0, LABEL_FORM, omega arith, refl, line_label words line)
+is_line words (inr (inl line)) = (1, DEBUG_FORM, omega arith, refl, line_debug words line)
+is_line words (inr (inr (No, line))) = no_line words line
+is_line words (inr (inr (Yes, line))) = yes_line words line
+
+-- words that are no line of any, and the place up to which they are in order
+pub usage_of : (words : Words) (place : ℕ) → (IsNotBuilt words → ⊥) → (IsTunefs words → ⊥) → (IsDebugfs words → ⊥) → (IsFsck words → ⊥) → ReachesTo forms words place → RefusesWords words (Usage place)
+usage_of words place built label debug fsck reaches = (
   built,
   record {
-    no_line = λ line. ⊎_elim other others (line_of words line);
+    no_line = λ line. ⊎_elim label (⊎_elim debug fsck) (line_of words line);
     within = reaches.within;
     begins = reaches.begins;
     leaves = reaches.leaves;

@@ -3,7 +3,7 @@ use Rattle.std.proofs.Common.{◌≡◌, ◌⊎◌, inl, inr, ⊎_elim, ℕ, Lis
 use Rattle.o2_words.specs.CommandLine.{Words, IsFirst, AreFirst, IsNotBuilt}
 
 abbrev pub IsUnbuiltTool : List ℕ → Type 0
-IsUnbuiltTool tool = (tool ≡ codes "mkfs") ⊎ (tool ≡ codes "fsck") ⊎ (tool ≡ codes "sample")
+IsUnbuiltTool tool = (tool ≡ codes "mkfs") ⊎ (tool ≡ codes "sample")
 
 abbrev pub IsUnbuiltOption : List ℕ → Type 0
 IsUnbuiltOption option = (option ≡ codes "-N") ⊎ (option ≡ codes "-J") ⊎ (option ≡ codes "-S")
@@ -11,10 +11,7 @@ IsUnbuiltOption option = (option ≡ codes "-N") ⊎ (option ≡ codes "-J") ⊎
 pub unbuilt_tool : (words rest : Words) (tool : List ℕ) → words ≡ tool ∷ rest → IsUnbuiltTool tool → IsNotBuilt words
 unbuilt_tool words rest tool shown one = elim one [
   | inl e ↦ inl (named (codes "mkfs") e)
-  | inr one ↦ elim one [
-    | inl e ↦ inr (inl (named (codes "fsck") e))
-    | inr e ↦ inr (inr (inl (named (codes "sample") e)))
-  ]
+  | inr e ↦ inr (inl (named (codes "sample") e))
 ]
   where
     named : (name : List ℕ) → tool ≡ name → IsFirst name words
@@ -22,10 +19,10 @@ unbuilt_tool words rest tool shown one = elim one [
 
 pub unbuilt_option : (words rest : Words) (tool option : List ℕ) → words ≡ tool ∷ option ∷ rest → tool ≡ codes "tunefs" → IsUnbuiltOption option → IsNotBuilt words
 unbuilt_option words rest tool option shown is one = elim one [
-  | inl e ↦ inr (inr (inr (inl (named (codes "-N") e))))
+  | inl e ↦ inr (inr (inl (named (codes "-N") e)))
   | inr one ↦ elim one [
-    | inl e ↦ inr (inr (inr (inr (inl (named (codes "-J") e)))))
-    | inr e ↦ inr (inr (inr (inr (inr (named (codes "-S") e)))))
+    | inl e ↦ inr (inr (inr (inl (named (codes "-J") e))))
+    | inr e ↦ inr (inr (inr (inr (named (codes "-S") e))))
   ]
 ]
   where
@@ -36,11 +33,10 @@ unbuilt_option words rest tool option shown is one = elim one [
 pub unbuilt : (words rest : Words) (tool option : List ℕ) → words ≡ tool ∷ option ∷ rest → IsNotBuilt words → IsUnbuiltTool tool ⊎ IsUnbuiltOption option
 unbuilt words rest tool option shown built =
     ⊎_elim (λ a. inl (inl (first (codes "mkfs") a)))
-    (⊎_elim (λ a. inl (inr (inl (first (codes "fsck") a))))
-    (⊎_elim (λ a. inl (inr (inr (first (codes "sample") a))))
+    (⊎_elim (λ a. inl (inr (first (codes "sample") a)))
     (⊎_elim (λ a. inr (inl (second (codes "-N") a)))
     (⊎_elim (λ a. inr (inr (inl (second (codes "-J") a))))
-    (λ a. inr (inr (inr (second (codes "-S") a))))))))
+    (λ a. inr (inr (inr (second (codes "-S") a)))))))
     built
   where
     first : (name : List ℕ) → IsFirst name words → tool ≡ name

@@ -9,7 +9,7 @@ use Rattle.o2_words.specs.declared.form.Part.TheVariants.{One, Optional}
 use Rattle.o2_words.specs.declared.kind.Kind.{Kind}
 use Rattle.o2_words.specs.declared.name.Name.{Name}
 use Rattle.o2_words.proofs.Readings.{some_part, first_reads, one_rest, leads_on, leads_back}
-use Rattle.o2_words.proofs.Lines.{reads_itself}
+use Rattle.o2_words.proofs.Worded.{reads_itself}
 
 -- ---- an option that is taken out of a form
 -- it is the first part

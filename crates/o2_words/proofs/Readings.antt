@@ -6,12 +6,14 @@ use Rattle.std.proofs.lemmas.List.Elements.{All-nil}
 use Rattle.std.proofs.lemmas.List.Sums.{sum_by-append, sum_by-cons}
 use Rattle.o2_words.specs.Names.{text_of}
 use Rattle.o2_words.specs.Kinds.{Fits}
+use Rattle.o2_words.specs.LetterWords.{letter_of}
 use Rattle.o2_words.specs.Parts.{Reads, MayBeLeft}
 use Rattle.o2_words.specs.Forms.{Words, Form, left_behind, IsReader, Follows, Leads, Matches, words_of, most_words}
 use Rattle.o2_words.specs.declared.kind.Kind.{Kind}
-use Rattle.o2_words.specs.declared.kind.Kind.TheVariants.{Fixed, Text, Device, Query, Number}
+use Rattle.o2_words.specs.declared.kind.Kind.TheVariants.{Fixed, Text, Device, Query, Number, Letters}
 use Rattle.o2_words.specs.declared.form.Part.{Part}
 use Rattle.o2_words.specs.declared.form.Part.TheVariants.{One, Perhaps, Optional, Flag}
+use Rattle.o2_words.proofs.LetterLemmas.{answer_word}
 
 -- some part, where one is asked for behind the end
 pub some_part : Part
@@ -61,6 +63,7 @@ sample_of Text = []
 sample_of Device = codes "d"
 sample_of Query = codes "stats"
 sample_of Number = codes "0"
+sample_of (Letters answer) = codes "-" ++ letter_of answer ∷ []
 
 pub sample_fits : (kind : Kind) → Fits kind (sample_of kind)
 unfolding sample_of
@@ -69,6 +72,7 @@ sample_fits Text = tt
 sample_fits Device = record { some = omega arith; no_option = λ is. absurd (omega (arith, is)) }
 sample_fits Query = inr (inl refl)
 sample_fits Number = record { some = omega arith; most = omega arith; digits = refl }
+sample_fits (Letters answer) = answer_word answer (codes "-" ++ letter_of answer ∷ []) (inl refl)
 
 -- the first part of a form reads the word
 pub first_reads : (part : Part) (form : Form) (word : List ℕ) → Reads part word → Follows (part ∷ form) word (left_behind part [] form)

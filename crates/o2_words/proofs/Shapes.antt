@@ -46,4 +46,4 @@ asked_line words word device (Some asked) form names asks =
 pub asked_fault : (words : Words) (a : Asked) (f : WordFault) → ReadsAsked a words → (f ≡ fault.NoMemory) ⊎ ((f ≡ fault.Later) × (a ≡ asked.Later)) → RefusesWords words f
 asked_fault words a f reads (inl none) = subst (RefusesWords words) (sym none) tt
 asked_fault words a f reads (inr (later, is)) =
-    subst (RefusesWords words) (sym later) (inr (record { word = word_of words; device = device_of words; line = reads.line; later = subst (λ (b : Asked). IsAsked b (word_of words)) is reads.asks }))
+    subst (RefusesWords words) (sym later) (inr (inl (record { word = word_of words; device = device_of words; line = reads.line; later = subst (λ (b : Asked). IsAsked b (word_of words)) is reads.asks })))

@@ -1,6 +1,8 @@
 // A command line of `fsck`, read.
-ghost use Rattle.std.specs.Prelude.{◌≡◌, ◌⊎◌, ◌↔◌, ◌∷◌, [], IsTrue, MatchOption};
+ghost use Rattle.std.specs.Prelude.{◌≡◌, ◌⊎◌, ◌↔◌, ◌∷◌, [], codes, IsTrue, MatchOption};
 ghost use Rattle.o2_words.specs.CommandLine.{texts, IsFsckOf, IsFsck, place_of_device};
+ghost use Rattle.o2_words.specs.Kinds.{IsDevice};
+ghost use Rattle.o2_words.specs.LetterWords.{IsAnswerWord};
 ghost use Rattle.o2_words.specs.Names.{text_of};
 
 use crate::{Answer, Kind, Name};
@@ -49,6 +51,12 @@ fn gives_answer(words: &[String], answer: Answer) -> bool
 fn gives_in_one(tool: &str, letters: &str, device: &str, answer: Answer) -> bool
     ensures { IsTrue result ↔ IsFsckOf answer (tool.now ∷ letters.now ∷ device.now ∷ []) }
 {
+    is_in_one(tool, letters, device, answer)
+}
+
+fn is_in_one(tool: &str, letters: &str, device: &str, answer: Answer) -> bool
+    ensures { IsTrue result ↔ ((tool.now ≡ codes "fsck") × (IsAnswerWord answer letters.now × IsDevice device.now)) }
+{
     Name::Fsck.is(tool) && answer.is_given_by(letters) && Kind::Device.fits(device)
 }
 
@@ -56,9 +64,14 @@ fn gives_in_one(tool: &str, letters: &str, device: &str, answer: Answer) -> bool
 fn gives_in_two(tool: &str, first: &str, second: &str, device: &str, answer: Answer) -> bool
     ensures { IsTrue result ↔ IsFsckOf answer (tool.now ∷ first.now ∷ second.now ∷ device.now ∷ []) }
 {
-    Name::Fsck.is(tool)
-        && are_these(first, second, Name::Force, answer.name())
-        && Kind::Device.fits(device)
+    is_in_two(tool, first, second, device, answer.name())
+}
+
+fn is_in_two(tool: &str, first: &str, second: &str, device: &str, name: Name) -> bool
+    ensures { IsTrue result ↔ ((tool.now ≡ codes "fsck")
+        × ((((first.now ≡ codes "-f") × (second.now ≡ text_of name)) ⊎ ((first.now ≡ text_of name) × (second.now ≡ codes "-f"))) × IsDevice device.now)) }
+{
+    Name::Fsck.is(tool) && are_these(first, second, Name::Force, name) && Kind::Device.fits(device)
 }
 
 // Whether the two words are these, in either order.

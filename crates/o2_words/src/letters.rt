@@ -1,5 +1,5 @@
 // The words of letters that `fsck` takes.
-ghost use Rattle.std.specs.Prelude.{◌≡◌, ◌↔◌, ◌∷◌, [], ◌++◌, codes, IsTrue};
+ghost use Rattle.std.specs.Prelude.{◌≡◌, ◌⊎◌, ◌↔◌, ◌∷◌, [], ◌++◌, codes, IsTrue};
 ghost use Rattle.o2_words.specs.LetterWords.{IsAnswerWord, letter_of};
 ghost use Rattle.o2_words.specs.Names.{text_of};
 
@@ -30,8 +30,14 @@ impl Answer {
         ensures { IsTrue result ↔ IsAnswerWord self word.now }
     {
         match self {
-            Answer::No => word == "-n" || word == "-fn" || word == "-nf",
-            Answer::Yes => word == "-y" || word == "-fy" || word == "-yf",
+            Answer::No => is_one_of(word, "-n", "-fn", "-nf"),
+            Answer::Yes => is_one_of(word, "-y", "-fy", "-yf"),
         }
     }
+}
+
+fn is_one_of(word: &str, first: &str, second: &str, third: &str) -> bool
+    ensures { IsTrue result ↔ ((word.now ≡ first.now) ⊎ ((word.now ≡ second.now) ⊎ (word.now ≡ third.now))) }
+{
+    word == first || word == second || word == third
 }

@@ -8,4 +8,4 @@ pub returns-in-Err : goal.returns-in-Err
 returns-in-Err c = asked_fault (texts c.args.words.now) c.in-Some-read_asked.asked c.in-Err.fault c.in-Some-read_asked.ensures c.in-Err.ensures
 
 pub returns : goal.returns
-returns c = usage_of (texts c.args.words.now) c.in_ok-place.place (λ built. let b = c.if-is_not_built.ensures.1 built in cc b) c.in_default.ensures c.in_default-read_asked.ensures c.in_ok-place.ensures.reaches
+returns c = usage_of (texts c.args.words.now) c.in_ok-place.place (λ built. let b = c.if-is_not_built.ensures.1 built in cc b) c.in_default.ensures c.in_default-read_asked.ensures c.in-None.ensures c.in_ok-place.ensures.reaches
