@@ -99,7 +99,7 @@ both_apart a b c d first second (inl tells) (inr mends) = apart 1 (codes "-f") (
 both_apart a b c d first second (inr tells) (inl mends) = apart 1 (answer_text No) (codes "-f") refl (sym tells.0 ∙ first ∙ mends.0)
 both_apart a b c d first second (inr tells) (inr mends) = apart 1 (answer_text No) (answer_text Yes) refl (sym tells.0 ∙ first ∙ mends.0)
 
-one_of_both : (words : Words) → IsFsckOf No words → IsFsckOf Yes words → ⊥
+pub one_of_both : (words : Words) → IsFsckOf No words → IsFsckOf Yes words → ⊥
 one_of_both words tells mends = elim (one_or_two No words tells) [
   | inl one ↦ elim (one_or_two Yes words mends) [
     | inl other ↦ both_words one.word other.word (let e = one.is in let f = other.is in cc (e, f)) one.gives other.gives
