@@ -4,3 +4,6 @@ pub mod ListFaults
 pub mod FirstOddity
 pub mod OrphansTold
 pub mod WholeFails
+pub mod OwnersAt
+pub mod LaterClaims
+pub mod FoundOwners

@@ -1,3 +1,4 @@
+pub mod OwnersAt
 pub mod Numbers
 pub mod WholeTables
 pub mod OrphanRows

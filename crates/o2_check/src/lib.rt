@@ -2,8 +2,10 @@
 #![tactic(auto)]
 
 mod claims;
+mod cluster_owners;
 mod fault;
 mod findings;
+mod found;
 mod given;
 mod join;
 mod lists;
@@ -14,6 +16,7 @@ mod report;
 mod tables;
 mod whole;
 
+pub use cluster_owners::{Owners, owners};
 pub use fault::CheckFault;
 pub use report::Report;
 pub use whole::check;

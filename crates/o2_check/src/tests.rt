@@ -2,7 +2,7 @@
 ghost use Rattle.std.specs.Prelude.{◌≡◌, ◌<◌};
 ghost use Rattle.o2_disk.specs.Device.{SameDevice, IsWritable};
 
-use crate::{CheckFault, Report, check};
+use crate::{CheckFault, Report, check, owners};
 use o2_disk::{Disk, How, MemDisk};
 use o2_model::{Check, Geo, Owner};
 use o2_ondisk::DxSeed;
@@ -14,7 +14,8 @@ use std::test::Fail;
 
 // The numbers of the whole volume: 16 clusters of 4 KiB, blocks of 512 bytes, one slot.
 fn numbers() -> Geo
-    ensures { result.block_bits ≡ 9 }
+    ensures bits { result.block_bits ≡ 9 }
+    ensures clusters { result.clusters ≡ 16 }
 {
     Geo {
         block_bits: 9,
@@ -89,5 +90,26 @@ fn tells_what_fails_in_order(rt: HostRuntime) -> Result<(), Fail> {
     let report = report_on(alloc, &mut disk)?;
     assert!(rt; !report.pairs().as_slice().is_empty());
     assert_eq!(rt; report.pairs().as_slice()[0], (Check::InodeKind, 29));
+    Ok(())
+}
+
+// Cluster 11 is shared by the files 30 and 31, and nobody has cluster 15.
+#[test]
+fn tells_all_owners_of_a_cluster(rt: HostRuntime) -> Result<(), Fail> {
+    let alloc = rt.alloc();
+    let mut disk = volume(&rt, alloc)?;
+    assert!(rt; disk.sectors() == 128);
+    for (cluster, owner) in [
+        (0, [Owner::Super].as_slice()),
+        (11, [Owner::Inode(30), Owner::Inode(31)].as_slice()),
+        (14, [Owner::LocalAlloc(0)].as_slice()),
+        (12, [Owner::TruncateLog(0)].as_slice()),
+        (15, [].as_slice()),
+    ] {
+        let mut view = View::<MemDisk, 1>::new(alloc, &mut disk, 9, 128)?;
+        assert!(rt; cluster < 16);
+        let found = owners(alloc, &mut view, &numbers(), cluster)?;
+        assert_eq!(rt; found.as_slice(), owner, "{cluster}");
+    }
     Ok(())
 }
