@@ -1,6 +1,5 @@
 pub mod Answers
 pub mod Commands
-pub mod Devices
 pub mod Fails
 pub mod Faults
 pub mod Lines

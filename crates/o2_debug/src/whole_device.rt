@@ -7,13 +7,13 @@ ghost use Rattle.o2_dir.specs.PathTexts.{IsPath};
 ghost use Rattle.o2_skeleton.specs.Skeleton.{HasSkeleton};
 ghost use Rattle.o2_debug.specs.Answers.{path_of};
 ghost use Rattle.o2_debug.specs.Commands.{AnswersAt, AnswersSomeAt};
-ghost use Rattle.o2_debug.specs.Devices.{volume_on, IsOn};
+ghost use Rattle.o2_open.specs.Devices.{volume_on, IsOn};
 ghost use Rattle.o2_debug.specs.Fails.{QueryFails};
 
 use crate::{DebugFault, Query, command};
 use o2_disk::{Disk, Sink};
 use o2_model::Geo;
-use o2_view::View;
+use o2_open::whole_view;
 use std::alloc::Global;
 
 /// Answers a query on the volume of these numbers, over all whole blocks of the device, of which N may be kept. The errors are
@@ -39,8 +39,7 @@ pub fn ask<D: Disk, K: Sink, const N: usize>(
         (out.new ≡ out.old)) }
     ensures quiet { (IsErrOf result DebugFault.OutputFault → ⊥) → (K.state out.new).faults ≡ (K.state out.old).faults }
 {
-    let blocks = device.sectors() >> (geo.block_bits - 9);
-    let Ok(mut view) = View::<D, N>::new(alloc, device, geo.block_bits, blocks) else {
+    let Ok(mut view) = whole_view::<D, N>(alloc, device, geo) else {
         return Err(DebugFault::NoMemory);
     };
     let answer = command(alloc, &mut view, geo, query, out);

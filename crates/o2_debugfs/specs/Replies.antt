@@ -5,25 +5,18 @@ use Rattle.o2_disk.specs.Output.{SinkState}
 use Rattle.o2_model.specs.Image.{Image}
 use Rattle.o2_model.specs.Superblock.{superblock_bits}
 use Rattle.o2_model.specs.Features.{unsupported_feature}
-use Rattle.o2_model.specs.Volume.{Volume, opened}
 use Rattle.o2_view.specs.OwnChecks.{FailsFirst}
 use Rattle.o2_skeleton.specs.Skeleton.{HasSkeleton, skeleton_checks}
 use Rattle.o2_cause.specs.Causes.{cause_line, IsRefusal}
 use Rattle.o2_cause.specs.Taken.{Takes, TakesSome}
 use Rattle.o2_cause.specs.declared.cause.Cause.{Cause}
 use Rattle.o2_cause.specs.declared.cause.Cause.TheVariants.{Fine, NotOcfs2, Unsupported, Absent, WrongKind, Bad, DeviceFault, OutputFault, NoMemory}
+use Rattle.o2_open.specs.Openings.{IsServed}
 use Rattle.o2_debug.specs.Answers.{path_of}
 use Rattle.o2_debug.specs.Commands.{IsAnswerText, IsAbsent, IsOfWrongKind, FailsOn}
 use Rattle.o2_debug.specs.declared.fault.DebugFault.{DebugFault}
 use Rattle.o2_debug.specs.declared.fault.DebugFault.TheVariants as debug
 use Rattle.o2_debug.specs.declared.query.Query.{Query}
-
--- the image has a volume with nothing unsupported in its superblock, and this holds of it
-pub record IsServed (I : Image) (P : Volume → Type 0) : Type 0 where
-  pub volume : Volume
-  pub is : opened I ≡ Some volume
-  pub supported : unsupported_feature I ≡ None
-  pub holds : P volume
 
 -- ---- the report of a query
 -- This text is the report of the query: it answers the query, and stands where Fine would. Any other query has none.
@@ -68,22 +61,6 @@ ComesFor query I (WrongKind path) = (path ≡ path_of query) × IsServed I (λ v
 ComesFor query I DeviceFault = Unit {0}
 ComesFor query I NoMemory = Unit {0}
 ComesFor query I _ = ⊥
-
--- why a device is not opened for a query, where it has this content
-abbrev pub RefusesVolume : Image → Cause → Type 0
-RefusesVolume I NotOcfs2 = superblock_bits I ≡ None
-RefusesVolume I (Unsupported what block) = (unsupported_feature I ≡ Some what) × (block ≡ 2)
-RefusesVolume I DeviceFault = Unit {0}
-RefusesVolume I NoMemory = Unit {0}
-RefusesVolume I _ = ⊥
-
--- the causes for which a device is not opened
-abbrev pub IsOfOpening : Cause → Type 0
-IsOfOpening NotOcfs2 = Unit {0}
-IsOfOpening (Unsupported what block) = Unit {0}
-IsOfOpening DeviceFault = Unit {0}
-IsOfOpening NoMemory = Unit {0}
-IsOfOpening _ = ⊥
 
 -- the cause of the same name, with the query's whole path
 abbrev pub cause_of_query : Query → DebugFault → Cause

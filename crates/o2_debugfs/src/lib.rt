@@ -1,7 +1,6 @@
 //! What `debugfs` does: the answer to a query, and nothing written.
 #![tactic(auto)]
 
-mod open;
 mod run;
 mod tell;
 #[cfg(test)]

@@ -9,11 +9,11 @@ ghost use Rattle.o2_cause.specs.Causes.{IsDone, IsRefusal};
 ghost use Rattle.o2_debugfs.specs.QueryRun.{IsOfQuery};
 ghost use Rattle.o2_debugfs.specs.Replies.{ComesFor, TakesReport, TakesSomeOfReport, BeginsReport, cause_of_query};
 
-use crate::open::open_for_reading;
 use o2_cause::Cause;
 use o2_debug::{DebugFault, Query, ask};
 use o2_dir::PathText;
 use o2_disk::{Disk, How, Sink};
+use o2_open::open_for_reading;
 use std::alloc::Global;
 
 // How many blocks the reader may keep.

@@ -20,3 +20,9 @@ module _ {X : Type 0} (text_of : X → List ℕ) (xs : List X) (i : ℕ) (x : X)
       ∙ (ap (λ (ys : List X). concat (map text_of (take i xs)) ++ concat (map text_of ys)) (sym (drop_more xs i x within))
       ∙ (sym (concat-append (map text_of (take i xs)) (map text_of (drop i xs)))
       ∙ ap concat (sym (map-append text_of (take i xs) (drop i xs)) ∙ ap (map text_of) (take-append-drop i xs))))
+
+-- those before a place, and those from it on
+pub texts_cut : {X : Type 0} (text_of : X → List ℕ) (xs : List X) (i : ℕ) → concat (map text_of (take i xs)) ++ concat (map text_of (drop i xs)) ≡ concat (map text_of xs)
+texts_cut text_of xs i =
+    sym (concat-append (map text_of (take i xs)) (map text_of (drop i xs)))
+    ∙ ap concat (sym (map-append text_of (take i xs) (drop i xs)) ∙ ap (map text_of) (take-append-drop i xs))

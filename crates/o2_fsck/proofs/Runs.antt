@@ -72,7 +72,7 @@ module _ (name : List ℕ) (old new : DiskState) (before after : SinkState) (rea
 
   pub ends_told : (pairs : List (Check × ℕ)) (cause : Cause) → ((I : Image) → old.content ≡ Some I → AreFailing I pairs) → EndsReport pairs before after cause → CheckRun name old new before after cause
   ends_told pairs cause are report = elim report.ends [
-    | inl heard ↦ subst (λ (k : Cause). CheckRun name old new before after k) (sym heard.0) (ends_heard pairs are report.some heard.1.1 heard.1.0)
+    | inl heard ↦ subst (λ (k : Cause). CheckRun name old new before after k) (sym heard.0) (ends_heard pairs are report.some heard.2 heard.1)
     | inr (inl starved) ↦ subst (λ (k : Cause). CheckRun name old new before after k) (sym starved.0) (ends_starved pairs are report.some starved.1)
     | inr (inr unheard) ↦ subst (λ (k : Cause). CheckRun name old new before after k) (sym unheard.0) (ends_unheard pairs are report.some unheard.1)
   ]

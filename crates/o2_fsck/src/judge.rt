@@ -1,6 +1,6 @@
 // What fails on the volume of a device.
 ghost use Rattle.std.specs.Prelude.{◌≡◌, ◌≤◌, Some, IfOk, IfErr, IsErrOf};
-ghost use Rattle.o2_disk.specs.Device.{ReadsOnly, Rose, IsAttachedOnce, IsAttachedAtMostOnce, IsWritable};
+ghost use Rattle.o2_disk.specs.Device.{ReadsOnly, SameDevice, Rose, IsAttachedOnce, IsAttachedAtMostOnce, IsWritable};
 ghost use Rattle.o2_model.specs.Image.{Image};
 ghost use Rattle.o2_model.specs.Volume.{Volume};
 ghost use Rattle.o2_cause.specs.Causes.{IsDone};
@@ -52,6 +52,7 @@ fn check_device<D: Disk, const N: usize>(
     requires kept { 1 ≤ N }
     ensures told { IfOk result (λ report. (v : Volume) → IsOn (D.state device.old) geo.now v → IsReport v report) }
     ensures reads { ReadsOnly (D.state device.old) (D.state device.new) }
+    ensures device { SameDevice (D.state device.old) (D.state device.new) }
     ensures fails { IfErr result (DeviceCheckFails (D.state device.old) (D.state device.new) geo.now) }
 {
     let mut view = whole_view::<D, N>(alloc, device, geo)?;

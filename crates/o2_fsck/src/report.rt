@@ -65,8 +65,8 @@ fn put_pairs<K: Sink>(alloc: Global, pairs: &[(Check, u64)], out: &mut K) -> Res
     ensures fails { IfErr result (ReportFails (K.state out.old) (K.state out.new)) }
     ensures quiet { (IsErrOf result ReportFault.OutputFault → ⊥) → (K.state out.new).faults ≡ (K.state out.old).faults }
 {
-    for pair in pairs {
-        let line = pair_line(alloc, *pair)?;
+    for (check, block) in pairs {
+        let line = pair_line(alloc, *check, *block)?;
         put_text(out, line.as_bytes())?;
     }
     Ok(())
@@ -82,10 +82,9 @@ fn put_verdict<K: Sink>(alloc: Global, failing: usize, out: &mut K) -> Result<()
     Ok(put_text(out, line.as_bytes())?)
 }
 
-fn pair_line(alloc: Global, pair: (Check, u64)) -> Result<String, AllocError>
-    ensures { IfOk result (λ line. string_bytes line ≡ line_of_pair pair) }
+fn pair_line(alloc: Global, check: Check, block: u64) -> Result<String, AllocError>
+    ensures { IfOk result (λ line. string_bytes line ≡ line_of_pair (check, block)) }
 {
-    let (check, block) = pair;
     format!(in alloc; "[{check}] block {block}\n")
 }
 

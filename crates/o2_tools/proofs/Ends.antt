@@ -3,10 +3,10 @@ use Rattle.std.proofs.Common.{◌≡◌, ◌⊎◌, inl, inr, List, [], ◌∷�
 use Rattle.std.specs.Prelude.{slice_index_or}
 use Rattle.std.specs.declared.alloc.Global.{Global}
 use Rattle.std.proofs.lemmas.List.{length-map}
-use Rattle.o2_disk.specs.Device.{DiskState}
+use Rattle.o2_disk.specs.Device.{DiskState, Rose}
 use Rattle.o2_disk.specs.Output.{SinkState}
 use Rattle.o2_cause.specs.Causes.{cause_line, EndsBy}
-use Rattle.o2_cause.specs.Taken.{TakesSome}
+use Rattle.o2_cause.specs.Taken.{Takes, TakesSome}
 use Rattle.o2_cause.specs.declared.cause.Cause.{Cause}
 use Rattle.o2_cause.specs.declared.cause.Cause.TheVariants as cause
 use Rattle.o2_words.specs.CommandLine.{Words, texts, IsLaterLine, IsMendLine, RefusesWords, label_of, device_of, checked_device_of}
@@ -102,3 +102,10 @@ line_as {tool} {tool'} {before} {after} {after'} {cause} {cause'} t s k some =
     subst (λ (x : Cause). TakesSome before after' (cause_line tool' x)) (sym k)
     (subst (λ (x : SinkState). TakesSome before x (cause_line tool' cause)) (sym s)
     (subst (λ (x : List ℕ). TakesSome before after (cause_line x cause)) t some))
+
+pub all_as : {tool tool' : List ℕ} {before after after' : SinkState} {cause cause' : Cause} → tool ≡ tool' → after' ≡ after → cause' ≡ cause
+    → ((Rose before.faults after.faults → ⊥) → Takes before after (cause_line tool cause)) → (Rose before.faults after'.faults → ⊥) → Takes before after' (cause_line tool' cause')
+all_as {tool} {tool'} {before} {after} {after'} {cause} {cause'} t s k all =
+    subst (λ (x : SinkState). (Rose before.faults x.faults → ⊥) → Takes before x (cause_line tool' cause')) (sym s)
+    (subst (λ (x : Cause). (Rose before.faults after.faults → ⊥) → Takes before after (cause_line tool' x)) (sym k)
+    (subst (λ (x : List ℕ). (Rose before.faults after.faults → ⊥) → Takes before after (cause_line x cause)) t all))

@@ -1,7 +1,7 @@
 -- The volume was opened, and its query answered.
 use Rattle.std.proofs.Common.{◌≡◌, ℕ, ◌∙◌, refl, sym, subst, ap}
 use Rattle.o2_disk.specs.Device.{Rose}
-use Rattle.o2_debug.specs.Devices.{volume_on, IsOn}
+use Rattle.o2_open.specs.Devices.{volume_on, IsOn}
 use Rattle.o2_debug.specs.declared.fault.DebugFault.{DebugFault}
 use Rattle.o2_debug.specs.declared.fault.DebugFault.TheVariants as debug
 use Rattle.o2_cause.specs.Causes.{class_of, IsDone, IsRefusal}

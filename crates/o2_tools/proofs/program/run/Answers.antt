@@ -1,6 +1,8 @@
 -- By what was read of the words.
 use Rattle.std.proofs.Common.{◌≡◌, ◌⊎◌, inl, inr, ℕ, refl, sym, ◌∙◌, ap, subst}
-use Rattle.o2_cause.specs.Causes.{cause_line, EndsBy}
+use Rattle.o2_disk.specs.Device.{DiskState, ReadsOnly}
+use Rattle.o2_disk.proofs.Moments.{reads_none, leaves_itself}
+use Rattle.o2_cause.specs.Causes.{cause_line, EndsBy, IsRefusal}
 use Rattle.o2_cause.specs.Taken.{Takes, TakesSome}
 use Rattle.o2_cause.specs.declared.cause.Cause.{Cause}
 use Rattle.o2_cause.specs.declared.cause.Cause.TheVariants as cause
@@ -16,7 +18,7 @@ use Rattle.o2_tunefs.proofs.Runs.{not_begun}
 use Rattle.o2_debugfs.proofs.Runs.{not_begun as not_asked}
 use Rattle.o2_fsck.proofs.Runs.{not_begun as not_checked}
 use Rattle.o2_tools.specs.Refused.{RefusesBy}
-use Rattle.o2_tools.proofs.Ends.{label_read, name_read, last_name_read, four_words, refused_by, by_memory, by_later, label_as, query_as, check_as, line_as}
+use Rattle.o2_tools.proofs.Ends.{label_read, name_read, last_name_read, four_words, refused_by, by_memory, by_later, label_as, query_as, check_as, line_as, all_as}
 use Rattle.o2_tools.proofs.program.run.Goals as goal
 use Rattle.o2_tools.proofs.program.run.Goals.{in-Err, in-Ok-Label, in-Ok-Debug, in-Ok-Check}
 
@@ -171,3 +173,29 @@ returns-clause-front g c other = elim c.match-read_words.branch [
       let says : ReadsCheck w.in-Ok-Check.place words = subst (λ (k : Command). Says k words) w.in-Ok-Check.field-0-is w.in-Ok-Check.ensures in
       absurd (other (inr (inr (says.letters, (_, says.line)))))
 ]
+
+pub returns-clause-output : goal.returns-clause-output
+returns-clause-output g c other = elim c.match-read_words.branch [
+  | in-Err w ↦ all_as w.first_word.ensures (ap g.K.Sink.state w.out-is) (c.by.ensures.cause ∙ w.cause-is) w.put_line-cause.ensures.all
+  | in-Ok-Label w ↦
+      let words = texts c.args.words.now in
+      let says : ReadsLabel w.in-Ok-Label.label w.in-Ok-Label.place words = subst (λ (k : Command). Says k words) w.in-Ok-Label.field-0-is w.in-Ok-Label.ensures in
+      absurd (other (inl (_, (_, says.line))))
+  | in-Ok-Debug w ↦
+      let words = texts c.args.words.now in
+      let says : ReadsQuery w.in-Ok-Debug.query w.in-Ok-Debug.place words = subst (λ (k : Command). Says k words) w.in-Ok-Debug.field-0-is w.in-Ok-Debug.ensures in
+      absurd (other (inr (inl (w.in-Ok-Debug.query, subst (λ (k : ℕ). ReadsQuery w.in-Ok-Debug.query k words) says.place says))))
+  | in-Ok-Check w ↦
+      let words = texts c.args.words.now in
+      let says : ReadsCheck w.in-Ok-Check.place words = subst (λ (k : Command). Says k words) w.in-Ok-Check.field-0-is w.in-Ok-Check.ensures in
+      absurd (other (inr (inr (says.letters, (_, says.line)))))
+]
+
+-- ---- a refusal
+pub returns-clause-kept : goal.returns-clause-kept
+returns-clause-kept g c refuses I settled = leaves_itself I (g.met.D.Disk.only_now c.args.device.now) settled refl (elim c.match-read_words.branch [
+  | in-Err w ↦ subst (λ (d : DiskState). ReadsOnly (g.D.Disk.state c.args.device.now) d) (sym (ap g.D.Disk.state w.device-is)) (reads_none (g.D.Disk.state c.args.device.now))
+  | in-Ok-Label w ↦ subst (λ (d : DiskState). ReadsOnly (g.D.Disk.state c.args.device.now) d) (sym (ap g.D.Disk.state w.device-is)) (w.run_label-cause.ensures.refused (subst IsRefusal (c.by.ensures.cause ∙ w.cause-is) refuses))
+  | in-Ok-Debug w ↦ subst (λ (d : DiskState). ReadsOnly (g.D.Disk.state c.args.device.now) d) (sym (ap g.D.Disk.state w.device-is)) w.run_query-cause.ensures.reads
+  | in-Ok-Check w ↦ subst (λ (d : DiskState). ReadsOnly (g.D.Disk.state c.args.device.now) d) (sym (ap g.D.Disk.state w.device-is)) w.run_check-cause.ensures.reads
+])
