@@ -11,13 +11,13 @@ use Rattle.o2_model.specs.Inodes.{kind, is_directory, is_directory_kind, is_file
 use Rattle.o2_model.specs.Checks.DirBlock.{dir_block_faults}
 use Rattle.o2_view.specs.OwnChecks.{NoneFails, FailsFirst, IsOwn}
 use Rattle.o2_dir.specs.Fails.{directory_checks}
-use Rattle.o2_debug.specs.declared.query.Query.{Query}
-use Rattle.o2_debug.specs.declared.query.Query.TheVariants.{Ls, Stat, Cat}
+use Rattle.o2_debug.specs.declared.query.PathQuery.{PathQuery}
+use Rattle.o2_debug.specs.declared.query.PathQuery.TheVariants.{Ls, Stat, Cat}
 use Rattle.o2_debug.specs.Objects.{object_checks, query_checks}
 use Rattle.o2_debug.specs.Answers.{is_for, IsAnswerable, Answers, AnswersSome, BeginsAnswer}
 
 module _ (v : Volume) (b : ℕ) (d : Dinode) (is : d ≡ dinode v b) where
-  pub asked_kind : (query : Query) (test : Bool) → is_for query (kind_of_mode d.mode) ≡ test → is_for query (kind v b) ≡ test
+  pub asked_kind : (query : PathQuery) (test : Bool) → is_for query (kind_of_mode d.mode) ≡ test → is_for query (kind v b) ≡ test
   asked_kind query test told = ap (λ (e : Dinode). is_for query (kind_of_mode e.mode)) (sym is) ∙ told
 
 pub is_directory_of : (v : Volume) (b : ℕ) → is_directory_kind (kind v b) ≡ true → is_directory v b ≡ true
@@ -26,7 +26,7 @@ is_directory_of v b is = is
 
 -- ---- the checks of a query
 -- which checks they are is the same for each inode
-pub own_for : (query : Query) (m n : ℕ) (check : Check) → IsOwn (query_checks query m) check → IsOwn (query_checks query n) check
+pub own_for : (query : PathQuery) (m n : ℕ) (check : Check) → IsOwn (query_checks query m) check → IsOwn (query_checks query n) check
 own_for (Ls path) m n check own = own
 own_for (Stat path) m n check own = own
 own_for (Cat path) m n check own = own
@@ -54,7 +54,7 @@ module _ (v : Volume) (b : ℕ) (path : List ℕ) (sound : NoneFails (object_che
   cat_answerable is = record { sound = sound; kind = is }
 
 -- ---- of the same inode, by another name for its number
-module _ (query : Query) (v : Volume) {old new : SinkState} (m n : ℕ) (same : m ≡ n) where
+module _ (query : PathQuery) (v : Volume) {old new : SinkState} (m n : ℕ) (same : m ≡ n) where
   pub answers_as : Answers query v m old new → Answers query v n old new
   answers_as h = subst (λ (b : ℕ). Answers query v b old new) same h
 

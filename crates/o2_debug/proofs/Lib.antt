@@ -5,4 +5,5 @@ pub mod Fails
 pub mod Judged
 pub mod Starts
 pub mod TextLemmas
+pub mod VolumeText
 pub mod WholeDevice

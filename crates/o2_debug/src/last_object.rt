@@ -15,7 +15,7 @@ ghost use Rattle.o2_debug.specs.Objects.{object_checks, query_checks};
 use crate::cat::put_file;
 use crate::object::judge;
 use crate::put::{put_ls, put_stat};
-use crate::{DebugFault, Query};
+use crate::{DebugFault, PathQuery};
 use o2_dir::{InodeReading, is_of_directory, is_of_file};
 use o2_disk::{Disk, Sink};
 use o2_model::Geo;
@@ -24,13 +24,13 @@ use o2_view::View;
 use std::alloc::Global;
 
 /// Whether a query is for inodes with such a dinode.
-fn is_for(query: &Query, d: &Dinode) -> bool
+fn is_for(query: &PathQuery, d: &Dinode) -> bool
     ensures { result ≡ is_for_kind query.now (kind_of_mode d.now.mode) }
 {
     match query {
-        Query::Ls { .. } => is_of_directory(d),
-        Query::Stat { .. } => true,
-        Query::Cat { .. } => is_of_file(d),
+        PathQuery::Ls { .. } => is_of_directory(d),
+        PathQuery::Stat { .. } => true,
+        PathQuery::Cat { .. } => is_of_file(d),
     }
 }
 
@@ -39,7 +39,7 @@ fn put_answer<D: Disk, K: Sink, const N: usize>(
     alloc: Global,
     view: &mut View<'_, D, N>,
     geo: &Geo,
-    query: &Query,
+    query: &PathQuery,
     reading: &InodeReading,
     out: &mut K,
 ) -> Result<(), DebugFault>
@@ -56,9 +56,9 @@ fn put_answer<D: Disk, K: Sink, const N: usize>(
     ensures quiet { (IsErrOf result DebugFault.OutputFault → ⊥) → (K.state out.new).faults ≡ (K.state out.old).faults }
 {
     match query {
-        Query::Ls { .. } => put_ls(alloc, view, geo, reading, out),
-        Query::Stat { .. } => put_stat(alloc, reading, out),
-        Query::Cat { .. } => put_file(alloc, view, geo, reading, out),
+        PathQuery::Ls { .. } => put_ls(alloc, view, geo, reading, out),
+        PathQuery::Stat { .. } => put_stat(alloc, reading, out),
+        PathQuery::Cat { .. } => put_file(alloc, view, geo, reading, out),
     }
 }
 
@@ -68,7 +68,7 @@ pub fn answer<D: Disk, K: Sink, const N: usize>(
     alloc: Global,
     view: &mut View<'_, D, N>,
     geo: &Geo,
-    query: &Query,
+    query: &PathQuery,
     inode: u64,
     out: &mut K,
 ) -> Result<(), DebugFault>

@@ -90,14 +90,16 @@ fn mode_text_line(alloc: Global, mode: u16) -> Result<Bytes, AllocError>
     Ok(Bytes::from(line.into_bytes()))
 }
 
-fn number_text_line(alloc: Global, label: &str, n: u64) -> Result<Bytes, AllocError>
+/// A line of one number.
+pub fn number_text_line(alloc: Global, label: &str, n: u64) -> Result<Bytes, AllocError>
     ensures { IfOk result (λ line. line ≡ number_line label.now n) }
 {
     let line = format!(in alloc; "{label}{n}\n")?;
     Ok(Bytes::from(line.into_bytes()))
 }
 
-fn pair_text_line(alloc: Global, label: &str, m: u64, n: u64) -> Result<Bytes, AllocError>
+/// A line of two numbers.
+pub fn pair_text_line(alloc: Global, label: &str, m: u64, n: u64) -> Result<Bytes, AllocError>
     ensures { IfOk result (λ line. line ≡ pair_line label.now m n) }
 {
     let line = format!(in alloc; "{label}{m} {n}\n")?;

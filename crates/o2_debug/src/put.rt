@@ -23,8 +23,8 @@ use o2_model::Geo;
 use o2_view::View;
 use std::alloc::Global;
 
-// Puts lines on the sink.
-fn put_all<K: Sink>(out: &mut K, lines: &Lines) -> Result<(), DebugFault>
+/// Puts lines on the sink.
+pub fn put_all<K: Sink>(out: &mut K, lines: &Lines) -> Result<(), DebugFault>
     ensures told { OnOk result (Takes (K.state out.old) (K.state out.new) (concat lines.now)) }
     ensures some { TakesSome (K.state out.old) (K.state out.new) (concat lines.now) }
     ensures cause { OnErr result (IsErrOf result DebugFault.OutputFault) }
