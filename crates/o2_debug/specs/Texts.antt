@@ -5,9 +5,10 @@ use Rattle.o2_model.specs.Volume.{Volume, dinode}
 use Rattle.o2_model.specs.Inodes.{leaf_records}
 use Rattle.o2_model.specs.Directories.{directory_entries}
 use Rattle.o2_model.specs.Contents.{bytes_of}
+use Rattle.o2_model.specs.RefcountTrees.{refcounts}
 use Rattle.o2_model.specs.AfterReplay.{super_of_volume, journal_length}
 use Rattle.o2_model.specs.SystemFiles.{slots}
-use Rattle.o2_debug.specs.Lines.{entry_line, dinode_lines, extent_line}
+use Rattle.o2_debug.specs.Lines.{entry_line, dinode_lines, extent_line, refcount_line}
 use Rattle.o2_debug.specs.OwnFiles.{clusters_in_use, slot_nodes}
 use Rattle.o2_debug.specs.VolumeLines.{volume_lines, journal_line, slot_lines}
 
@@ -32,3 +33,7 @@ stat_text v b = concat (dinode_lines b (dinode v b) ++ map extent_line (leaf_rec
 -- of `cat`: the bytes of the file
 unfoldable pub cat_text : Volume → ℕ → List ℕ
 cat_text v b = bytes_of v b
+
+-- of `refcount`: a line for each record of the file's refcount tree, block by block
+unfoldable pub refcount_text : Volume → ℕ → List ℕ
+refcount_text v b = concat (map refcount_line (refcounts v (dinode v b).refcount_loc).records)

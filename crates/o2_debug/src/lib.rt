@@ -14,6 +14,7 @@ mod query;
 #[cfg(test)]
 mod tests;
 mod text;
+mod trees;
 mod volume;
 mod volume_lines;
 mod whole_device;

@@ -21,6 +21,8 @@ pub enum PathQuery {
     Stat { path: PathText },
     /// The bytes of the file.
     Cat { path: PathText },
+    /// The records of the refcount tree of the file, which shares clusters.
+    Refcount { path: PathText },
 }
 
 impl PathQuery {
@@ -35,6 +37,7 @@ impl PathQuery {
             PathQuery::Ls { path } => path,
             PathQuery::Stat { path } => path,
             PathQuery::Cat { path } => path,
+            PathQuery::Refcount { path } => path,
         }
     }
 
@@ -46,6 +49,7 @@ impl PathQuery {
             PathQuery::Ls { path } => path,
             PathQuery::Stat { path } => path,
             PathQuery::Cat { path } => path,
+            PathQuery::Refcount { path } => path,
         }
     }
 }

@@ -9,6 +9,7 @@ use std::process::Abort;
 use std::test::Fail;
 
 mod reads;
+mod trees;
 mod volumes;
 
 fn volume(rt: &impl Abort, alloc: Global) -> Result<MemDisk, Fail> {

@@ -1,7 +1,6 @@
 -- One slot more.
 use Rattle.std.proofs.Common.{◌≡◌, ℕ, List, [], ◌∷◌, ◌++◌, Option, Some, None, get_or, sym, ◌∙◌, ap}
 use Rattle.std.proofs.lemmas.List.{append-nil}
-use Rattle.std.specs.Global.{Vec}
 use Rattle.o2_debug.specs.Lines.{pair_line}
 use Rattle.o2_debug.proofs.VolumeText.{slot_more}
 use Rattle.o2_debug.proofs.volume_lines.slot_lines.Goals as goal
