@@ -6,9 +6,9 @@ use Rattle.o2_model.specs.Volume.{Volume, is_valid}
 use Rattle.o2_dir.specs.PathTexts.{is_name, AreJoinedNames, IsPath}
 use Rattle.o2_dir.specs.Paths.{Begins, Leads}
 use Rattle.o2_skeleton.specs.Skeleton.{HasSkeleton}
-use Rattle.o2_debug.specs.declared.query.Query.{Query}
+use Rattle.o2_debug.specs.declared.query.PathQuery.{PathQuery}
 use Rattle.o2_debug.specs.Answers.{path_of, text_of, IsAnswerable}
-use Rattle.o2_debug.specs.Commands.{HasStart, PathLeads, IsAnswerText}
+use Rattle.o2_debug.specs.PathAnswers.{HasStart, PathLeads, IsPathAnswer}
 use Rattle.o2_debug.proofs.Starts.{valid_root, valid_sysdir}
 
 -- the names of what follows the beginning of a path
@@ -53,19 +53,19 @@ start_is_valid : (v : Volume) (text : List ℕ) (start : ℕ) (names : List (Lis
 start_is_valid v text start names skeleton (inl root) = subst (λ (b : ℕ). is_valid v b ≡ true) (sym root.0) (valid_root v skeleton)
 start_is_valid v text start names skeleton (inr system) = subst (λ (b : ℕ). is_valid v b ≡ true) (sym system.0) (valid_sysdir v skeleton)
 
-pub has_start : (query : Query) (v : Volume) → HasSkeleton v → HasStart query v
+pub has_start : (query : PathQuery) (v : Volume) → HasSkeleton v → HasStart query v
 has_start query v skeleton start names begins = start_is_valid v (path_of query) start names skeleton begins
 
-pub leads_to_valid : (query : Query) (v : Volume) (b : ℕ) → IsPath (path_of query) → HasStart query v → PathLeads query v b → is_valid v b ≡ true
+pub leads_to_valid : (query : PathQuery) (v : Volume) (b : ℕ) → IsPath (path_of query) → HasStart query v → PathLeads query v b → is_valid v b ≡ true
 leads_to_valid query v b path valid leads =
     let from = beginning v.geo (path_of query) path in
     along v from.names from.start b (valid from.start from.names from.begins) (leads from.start from.names from.begins)
 
 -- the same beginning, by other names for the numbers and for the path
-pub same_beginning : (query : Query) (v : Volume) (geo : Geo) (text : List ℕ) (start : ℕ) (names : List (List ℕ)) → v.geo ≡ geo → text ≡ path_of query → Begins v.geo (path_of query) start names → Begins geo text start names
+pub same_beginning : (query : PathQuery) (v : Volume) (geo : Geo) (text : List ℕ) (start : ℕ) (names : List (List ℕ)) → v.geo ≡ geo → text ≡ path_of query → Begins v.geo (path_of query) start names → Begins geo text start names
 same_beginning query v geo text start names numbers is begins =
     subst (λ (t : List ℕ). Begins geo t start names) (sym is) (subst (λ (n : Geo). Begins n (path_of query) start names) numbers begins)
 
 -- the text of the inode that the path leads to
-pub answer_text : (query : Query) (v : Volume) (b : ℕ) → PathLeads query v b → IsAnswerable query v b → IsAnswerText query v (text_of query v b)
+pub answer_text : (query : PathQuery) (v : Volume) (b : ℕ) → PathLeads query v b → IsAnswerable query v b → IsPathAnswer query v (text_of query v b)
 answer_text query v b leads answered = record { inode = b; leads = leads; answered = answered; is = refl }

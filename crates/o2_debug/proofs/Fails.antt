@@ -19,13 +19,15 @@ use Rattle.o2_dir.specs.declared.fault.PathFault.{PathFault}
 use Rattle.o2_dir.specs.declared.fault.PathFault.TheVariants as path
 use Rattle.o2_skeleton.specs.Skeleton.{HasSkeleton, skeleton_checks}
 use Rattle.o2_debug.specs.Answers.{path_of, text_of, AnswersSome, IsOfOtherKind}
-use Rattle.o2_debug.specs.Commands.{PathLeads}
+use Rattle.o2_debug.specs.PathAnswers.{PathLeads}
 use Rattle.o2_debug.specs.Fails.{LinesFail, AnswerFails, AnswerFailsAt, QueryFails}
 use Rattle.o2_debug.specs.Faults.{IsOfPath, IsOfRead}
 use Rattle.o2_debug.specs.Objects.{query_checks}
 use Rattle.o2_debug.specs.declared.fault.DebugFault.{DebugFault}
 use Rattle.o2_debug.specs.declared.fault.DebugFault.TheVariants as debug
+use Rattle.o2_debug.specs.declared.query.PathQuery.{PathQuery}
 use Rattle.o2_debug.specs.declared.query.Query.{Query}
+use Rattle.o2_debug.specs.declared.query.Query.TheVariants.{At}
 use Rattle.o2_debug.proofs.AtPath.{same_beginning, answer_text}
 
 module _ {D : Type 0} {N : ℕ} {g : disk.Ghosts D} where
@@ -57,29 +59,29 @@ module _ {D : Type 0} {N : ℕ} {g : disk.Ghosts D} where
 
   -- ---- of a query
   -- its path leads nowhere, and so nothing is put
-  path_fault : (old new : View D N g) (geo : Geo) (query : Query) (text : List ℕ) (before : SinkState) (kept : Type 0) → kept → text ≡ path_of query → (fault : PathFault) → PathFails old new (OnPath old geo text) fault
-      → (given : DebugFault) → IsOfPath fault given → AnswerFailsAt (Shows old geo) (view_state old) (view_state new) query before before kept given
-  path_fault old new geo query text before kept none is path.NoMemory fails given same = subst (AnswerFailsAt (Shows old geo) (view_state old) (view_state new) query before before kept) (sym same) tt
-  path_fault old new geo query text before kept none is path.DeviceFault fails given same = subst (AnswerFailsAt (Shows old geo) (view_state old) (view_state new) query before before kept) (sym same) fails
+  path_fault : (old new : View D N g) (geo : Geo) (query : PathQuery) (text : List ℕ) (before : SinkState) (kept : Type 0) → kept → text ≡ path_of query → (fault : PathFault) → PathFails old new (OnPath old geo text) fault
+      → (given : DebugFault) → IsOfPath fault given → AnswerFailsAt (Shows old geo) (view_state old) (view_state new) (At query) before before kept given
+  path_fault old new geo query text before kept none is path.NoMemory fails given same = subst (AnswerFailsAt (Shows old geo) (view_state old) (view_state new) (At query) before before kept) (sym same) tt
+  path_fault old new geo query text before kept none is path.DeviceFault fails given same = subst (AnswerFailsAt (Shows old geo) (view_state old) (view_state new) (At query) before before kept) (sym same) fails
   path_fault old new geo query text before kept none is (path.Bad check b) fails given same =
-      subst (AnswerFailsAt (Shows old geo) (view_state old) (view_state new) query before before kept) (sym same)
+      subst (AnswerFailsAt (Shows old geo) (view_state old) (view_state new) (At query) before before kept) (sym same)
       (none, λ v shows start names begins. inl (fails.1 v shows start names (same_beginning query v geo text start names shows.numbers is begins)))
   path_fault old new geo query text before kept none is path.Absent fails given same =
-      subst (AnswerFailsAt (Shows old geo) (view_state old) (view_state new) query before before kept) (sym same)
+      subst (AnswerFailsAt (Shows old geo) (view_state old) (view_state new) (At query) before before kept) (sym same)
       (none, λ v shows start names begins. fails v shows start names (same_beginning query v geo text start names shows.numbers is begins))
   path_fault old new geo query text before kept none is path.WrongKind fails given same =
-      subst (AnswerFailsAt (Shows old geo) (view_state old) (view_state new) query before before kept) (sym same)
+      subst (AnswerFailsAt (Shows old geo) (view_state old) (view_state new) (At query) before before kept) (sym same)
       (none, λ v shows start names begins. inl (fails v shows start names (same_beginning query v geo text start names shows.numbers is begins)))
 
-  pub path_fails : {A : Type 0} (r : Result A DebugFault) (old new : View D N g) (geo : Geo) (query : Query) (text : List ℕ) (before : SinkState) (kept : Type 0) → kept → text ≡ path_of query
-      → (fault : PathFault) → PathFails old new (OnPath old geo text) fault → IsErrAnd r (IsOfPath fault) → IfErr r (AnswerFailsAt (Shows old geo) (view_state old) (view_state new) query before before kept)
+  pub path_fails : {A : Type 0} (r : Result A DebugFault) (old new : View D N g) (geo : Geo) (query : PathQuery) (text : List ℕ) (before : SinkState) (kept : Type 0) → kept → text ≡ path_of query
+      → (fault : PathFault) → PathFails old new (OnPath old geo text) fault → IsErrAnd r (IsOfPath fault) → IfErr r (AnswerFailsAt (Shows old geo) (view_state old) (view_state new) (At query) before before kept)
   path_fails (Ok x) old new geo query text before kept none is fault fails same = tt
   path_fails (Err given) old new geo query text before kept none is fault fails same = path_fault old new geo query text before kept none is fault fails given same
 
   -- the inode that its path leads to has no answer
-  pub end_fails : {old mid : View D N g} (new : View D N g) (geo : Geo) (query : Query) (before after : SinkState) (kept : Type 0) (b : ℕ) → OnlyReads old mid → ((v : Volume) → Shows old geo v → PathLeads query v b) → (fault : DebugFault)
+  pub end_fails : {old mid : View D N g} (new : View D N g) (geo : Geo) (query : PathQuery) (before after : SinkState) (kept : Type 0) (b : ℕ) → OnlyReads old mid → ((v : Volume) → Shows old geo v → PathLeads query v b) → (fault : DebugFault)
       → AnswerFails mid new geo (query_checks query b) before after kept (λ v. AnswersSome query v b before after) ((v : Volume) → Shows mid geo v → IsOfOtherKind query v b) fault
-      → AnswerFailsAt (Shows old geo) (view_state old) (view_state new) query before after kept fault
+      → AnswerFailsAt (Shows old geo) (view_state old) (view_state new) (At query) before after kept fault
   end_fails new geo query before after kept b only leads debug.NoMemory fails = tt
   end_fails {old} {mid} new geo query before after kept b only leads debug.DeviceFault fails = rose_before (view_state old).faults (view_state mid).faults (view_state new).faults only.later fails
   end_fails new geo query before after kept b only leads debug.OutputFault fails =

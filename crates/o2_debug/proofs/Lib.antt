@@ -5,4 +5,6 @@ pub mod Fails
 pub mod Judged
 pub mod Starts
 pub mod TextLemmas
+pub mod TreeLemmas
+pub mod VolumeText
 pub mod WholeDevice

@@ -12,7 +12,7 @@ use Rattle.o2_skeleton.specs.Skeleton.{HasSkeleton, skeleton_checks}
 use Rattle.o2_debug.specs.declared.fault.DebugFault.{DebugFault}
 use Rattle.o2_debug.specs.declared.fault.DebugFault.TheVariants as debug
 use Rattle.o2_debug.specs.declared.query.Query.{Query}
-use Rattle.o2_debug.specs.Commands.{AnswersSomeAt, IsAbsent, IsOfWrongKind, FailsOn}
+use Rattle.o2_debug.specs.Queries.{AnswersSomeAt, IsAbsent, IsOfWrongKind, FailsOn}
 
 -- why lines were not put, or not to their end: memory may end before the first of them, and the output at any
 abbrev pub LinesFail : SinkState → SinkState → DebugFault → Type 0
@@ -31,7 +31,7 @@ module _ {D : Type 0} {N : ℕ} {g : disk.Ghosts D} where
   AnswerFails old new geo checks before after kept part other debug.WrongKind = kept × other
   AnswerFails old new geo checks before after kept part other (debug.Bad check b) = kept × IsBad old geo checks check b
 
--- Why a query was not answered by its path, or not to its end. `Seen` says which volume is meant, and `kept` that nothing was put.
+-- Why a query was not answered, or not to its end, where the skeleton of the volume is sound. `Seen` says which volume is meant, and `kept` that nothing was put.
 abbrev pub AnswerFailsAt : (Volume → Type 0) → DiskState → DiskState → Query → SinkState → SinkState → Type 0 → DebugFault → Type 0
 AnswerFailsAt Seen old new query before after kept debug.NoMemory = Unit {0}
 AnswerFailsAt Seen old new query before after kept debug.DeviceFault = Rose old.faults new.faults

@@ -1,7 +1,10 @@
 pub mod Answers
-pub mod Commands
 pub mod Fails
 pub mod Faults
 pub mod Lines
 pub mod Objects
+pub mod OwnFiles
+pub mod PathAnswers
+pub mod Queries
 pub mod Texts
+pub mod VolumeLines

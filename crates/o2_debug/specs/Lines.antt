@@ -6,6 +6,7 @@ use Rattle.o2_ondisk.specs.declared.kind.Kind.{Kind}
 use Rattle.o2_ondisk.specs.declared.kind.Kind.TheVariants.{File, Directory, Character, Block, Fifo, Socket, Link}
 use Rattle.o2_model.specs.declared.entry.Entry.{Entry}
 use Rattle.o2_model.specs.declared.leaf.Leaf.{Leaf}
+use Rattle.o2_model.specs.declared.placed_refcount.PlacedRefcount.{PlacedRefcount}
 
 -- ---- of a directory
 -- a live entry: the inode, its type's number, and the name's bytes as they are
@@ -62,3 +63,8 @@ dinode_lines block d =
 abbrev pub extent_line : Leaf → List ℕ
 extent_line r =
     codes "Extent: " ++ (decimal r.cpos ++ (codes " " ++ (decimal r.clusters ++ (codes " " ++ (decimal r.block ++ (codes " " ++ (decimal r.flags ++ codes "\n")))))))
+
+-- ---- of a refcount tree
+-- a record: the first of its clusters, how many they are, and how often each is referred to
+abbrev pub refcount_line : PlacedRefcount → List ℕ
+refcount_line p = decimal p.fields.cpos ++ (codes " " ++ (decimal p.fields.clusters ++ (codes " " ++ (decimal p.fields.refcount ++ codes "\n"))))

@@ -1,45 +1,52 @@
 // The answer to a query, for the inode at the end of its path.
 ghost use Rattle.std.specs.Prelude.{◌≡◌, true, OnOk, IsErrOf};
 ghost use Rattle.std.specs.Result.{IfErr};
-ghost use Rattle.o2_ondisk.specs.Kinds.{kind_of_mode};
 ghost use Rattle.o2_view.specs.Views.{Shows, OnlyReads};
 ghost use Rattle.o2_view.specs.Geos.{LiesIn, Reaches};
 ghost use Rattle.o2_view.specs.OwnChecks.{NoneFails};
-ghost use Rattle.o2_model.specs.Volume.{is_valid, Volume};
-ghost use Rattle.o2_model.specs.Inodes.{kind};
+ghost use Rattle.o2_model.specs.Volume.{is_valid, dinode, Volume};
 ghost use Rattle.o2_dir.specs.InodeReadings.{Fits, TellsSound};
-ghost use Rattle.o2_debug.specs.Answers.{is_for as is_for_kind, IsOfOtherKind, Answers, AnswersSome, BeginsAnswer};
+ghost use Rattle.o2_debug.specs.Answers.{is_for as is_for_dinode, IsOfOtherKind, Answers, AnswersSome, BeginsAnswer};
 ghost use Rattle.o2_debug.specs.Fails.{AnswerFails};
-ghost use Rattle.o2_debug.specs.Objects.{object_checks, query_checks};
+ghost use Rattle.o2_debug.specs.Objects.{object_checks, query_checks, is_sharing_file};
 
 use crate::cat::put_file;
 use crate::object::judge;
-use crate::put::{put_ls, put_stat};
-use crate::{DebugFault, Query};
+use crate::put::{put_ls, put_refcount, put_stat};
+use crate::{DebugFault, PathQuery};
 use o2_dir::{InodeReading, is_of_directory, is_of_file};
 use o2_disk::{Disk, Sink};
 use o2_model::Geo;
-use o2_ondisk::Dinode;
+use o2_ondisk::{Dinode, DynFeatures};
 use o2_view::View;
 use std::alloc::Global;
 
+/// Whether it is a file that shares clusters.
+fn is_of_sharing_file(d: &Dinode) -> bool
+    ensures { result ≡ is_sharing_file d.now }
+{
+    is_of_file(d) && d.dyn_features.has(DynFeatures::HAS_REFCOUNT)
+}
+
 /// Whether a query is for inodes with such a dinode.
-fn is_for(query: &Query, d: &Dinode) -> bool
-    ensures { result ≡ is_for_kind query.now (kind_of_mode d.now.mode) }
+fn is_for(query: &PathQuery, d: &Dinode) -> bool
+    ensures { result ≡ is_for_dinode query.now d.now }
 {
     match query {
-        Query::Ls { .. } => is_of_directory(d),
-        Query::Stat { .. } => true,
-        Query::Cat { .. } => is_of_file(d),
+        PathQuery::Ls { .. } => is_of_directory(d),
+        PathQuery::Stat { .. } => true,
+        PathQuery::Cat { .. } => is_of_file(d),
+        PathQuery::Refcount { .. } => is_of_sharing_file(d),
     }
 }
 
-/// Puts the text of a sound inode that was read, and that the query is for. Bad where entries are asked for and DIR_BLOCK fails.
+/// Puts the text of a sound inode that was read, and that the query is for. Bad where entries are asked for and DIR_BLOCK fails,
+/// and where records of a tree are and REF_TREE does.
 fn put_answer<D: Disk, K: Sink, const N: usize>(
     alloc: Global,
     view: &mut View<'_, D, N>,
     geo: &Geo,
-    query: &Query,
+    query: &PathQuery,
     reading: &InodeReading,
     out: &mut K,
 ) -> Result<(), DebugFault>
@@ -47,7 +54,7 @@ fn put_answer<D: Disk, K: Sink, const N: usize>(
     requires fits { Fits geo.now reading.now }
     requires read { (v : Volume) → Shows view.old geo.now v → TellsSound v reading.now.inode reading.now }
     requires sound { (v : Volume) → Shows view.old geo.now v → NoneFails (object_checks reading.now.inode) v }
-    requires asked { (v : Volume) → Shows view.old geo.now v → is_for_kind query.now (kind v reading.now.inode) ≡ true }
+    requires asked { (v : Volume) → Shows view.old geo.now v → is_for_dinode query.now (dinode v reading.now.inode) ≡ true }
     ensures told { OnOk result ((v : Volume) → Shows view.old geo.now v → Answers query.now v reading.now.inode (K.state out.old) (K.state out.new)) }
     ensures some { (v : Volume) → Shows view.old geo.now v → BeginsAnswer query.now v reading.now.inode (K.state out.old) (K.state out.new) }
     ensures reads { OnlyReads view.old view.new }
@@ -56,19 +63,21 @@ fn put_answer<D: Disk, K: Sink, const N: usize>(
     ensures quiet { (IsErrOf result DebugFault.OutputFault → ⊥) → (K.state out.new).faults ≡ (K.state out.old).faults }
 {
     match query {
-        Query::Ls { .. } => put_ls(alloc, view, geo, reading, out),
-        Query::Stat { .. } => put_stat(alloc, reading, out),
-        Query::Cat { .. } => put_file(alloc, view, geo, reading, out),
+        PathQuery::Ls { .. } => put_ls(alloc, view, geo, reading, out),
+        PathQuery::Stat { .. } => put_stat(alloc, reading, out),
+        PathQuery::Cat { .. } => put_file(alloc, view, geo, reading, out),
+        PathQuery::Refcount { .. } => put_refcount(alloc, view, geo, reading, out),
     }
 }
 
-/// Answers a query for the inode at the end of its path. Bad where INODE_KIND, EXTENT or INODE_SIZE fails for it, or DIR_BLOCK where
-/// entries are asked for, and then WrongKind where it is of another kind than is asked for.
+/// Answers a query for the inode at the end of its path. Bad where INODE_KIND, EXTENT or INODE_SIZE fails for it, DIR_BLOCK where
+/// entries are asked for, or REF_TREE where records of its tree are, and then WrongKind where it is of another kind than is asked
+/// for.
 pub fn answer<D: Disk, K: Sink, const N: usize>(
     alloc: Global,
     view: &mut View<'_, D, N>,
     geo: &Geo,
-    query: &Query,
+    query: &PathQuery,
     inode: u64,
     out: &mut K,
 ) -> Result<(), DebugFault>

@@ -8,14 +8,18 @@ mod fault;
 mod last_object;
 mod lines;
 mod object;
+mod own_files;
 mod put;
 mod query;
 #[cfg(test)]
 mod tests;
 mod text;
+mod trees;
+mod volume;
+mod volume_lines;
 mod whole_device;
 
 pub use commands::command;
 pub use fault::DebugFault;
-pub use query::Query;
+pub use query::{PathQuery, Query};
 pub use whole_device::ask;

@@ -1,11 +1,12 @@
 // The lines of each query.
 ghost use Rattle.std.specs.Prelude.{◌≡◌, IfOk, map, string_bytes, ◌++◌, codes};
 ghost use Rattle.o2_ondisk.specs.declared.dinode.Dinode.{Dinode as Numbers};
-ghost use Rattle.o2_debug.specs.Lines.{entry_line, kind_text, kind_line, mode_line, number_line, pair_line, dinode_lines as lines_of_dinode, extent_line};
+ghost use Rattle.o2_debug.specs.Lines.{entry_line, kind_text, kind_line, mode_line, number_line, pair_line, dinode_lines as lines_of_dinode, extent_line, refcount_line};
 
 use o2_dir::Entry;
 use o2_extent::Leaf;
 use o2_ondisk::{Dinode, Kind};
+use o2_refcount::PlacedRefcount;
 use o2_view::{Bytes, Items};
 use std::alloc::{AllocError, Global};
 
@@ -43,6 +44,27 @@ fn extent_text(alloc: Global, leaf: &Leaf) -> Result<Bytes, AllocError>
     let flags = leaf.flags;
     let line = format!(in alloc; "Extent: {cpos} {clusters} {block} {flags}\n")?;
     Ok(Bytes::from(line.into_bytes()))
+}
+
+fn refcount_text_line(alloc: Global, placed: &PlacedRefcount) -> Result<Bytes, AllocError>
+    ensures { IfOk result (λ line. line ≡ refcount_line placed.now) }
+{
+    let cluster = placed.fields.cpos;
+    let clusters = placed.fields.clusters;
+    let count = placed.fields.refcount;
+    let line = format!(in alloc; "{cluster} {clusters} {count}\n")?;
+    Ok(Bytes::from(line.into_bytes()))
+}
+
+/// The lines of `refcount`: one for each record of the tree.
+pub fn refcount_lines(alloc: Global, records: &[PlacedRefcount]) -> Result<Lines, AllocError>
+    ensures { IfOk result (λ lines. lines ≡ map refcount_line records.now) }
+{
+    let mut lines = Vec::new(alloc);
+    for placed in records {
+        lines.push(refcount_text_line(alloc, placed)?)?;
+    }
+    Ok(Lines::from(lines))
 }
 
 /// The last lines of `stat`: one for each leaf record.
@@ -90,14 +112,16 @@ fn mode_text_line(alloc: Global, mode: u16) -> Result<Bytes, AllocError>
     Ok(Bytes::from(line.into_bytes()))
 }
 
-fn number_text_line(alloc: Global, label: &str, n: u64) -> Result<Bytes, AllocError>
+/// A line of one number.
+pub fn number_text_line(alloc: Global, label: &str, n: u64) -> Result<Bytes, AllocError>
     ensures { IfOk result (λ line. line ≡ number_line label.now n) }
 {
     let line = format!(in alloc; "{label}{n}\n")?;
     Ok(Bytes::from(line.into_bytes()))
 }
 
-fn pair_text_line(alloc: Global, label: &str, m: u64, n: u64) -> Result<Bytes, AllocError>
+/// A line of two numbers.
+pub fn pair_text_line(alloc: Global, label: &str, m: u64, n: u64) -> Result<Bytes, AllocError>
     ensures { IfOk result (λ line. line ≡ pair_line label.now m n) }
 {
     let line = format!(in alloc; "{label}{m} {n}\n")?;

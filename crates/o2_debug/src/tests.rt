@@ -1,5 +1,5 @@
 // Queries of a whole volume in memory.
-use crate::{DebugFault, Query, ask};
+use crate::{DebugFault, PathQuery, Query, ask};
 use o2_dir::{PathText, is_path};
 use o2_disk::{Disk, How, MemDisk, MemSink};
 use o2_test_volumes::put_whole_volume;
@@ -9,6 +9,8 @@ use std::process::Abort;
 use std::test::Fail;
 
 mod reads;
+mod trees;
+mod volumes;
 
 fn volume(rt: &impl Abort, alloc: Global) -> Result<MemDisk, Fail> {
     let mut disk = MemDisk::new(alloc, 128)?;
@@ -31,7 +33,9 @@ fn answered(
     };
     assert!(rt; geo.block_bits >= 9);
     assert!(rt; geo.block_bits <= 12);
-    assert!(rt; is_path(query.path()));
+    if let Some(path) = query.path() {
+        assert!(rt; is_path(path));
+    }
     match ask::<MemDisk, MemSink, 1>(alloc, disk, &geo, query, out) {
         Ok(()) => Ok(None),
         Err(fault) => Ok(Some(fault)),
@@ -65,9 +69,9 @@ fn lists_directories(rt: HostRuntime) -> Result<(), Fail> {
         ),
         ("/d", "28 2 .\n18 2 ..\n29 1 h\n"),
     ] {
-        let query = Query::Ls {
+        let query = Query::At(PathQuery::Ls {
             path: path(alloc, text)?,
-        };
+        });
         let out = put_for(&rt, alloc, &mut disk, &query)?;
         assert_eq!(rt; out.bytes(), lines.as_bytes(), "{text}");
     }
@@ -107,16 +111,16 @@ fn tells_numbers_and_extents(rt: HostRuntime) -> Result<(), Fail> {
     let alloc = rt.alloc();
     let mut disk = volume(&rt, alloc)?;
     for (text, lines) in [("/f", NUMBERS_OF_FILE), ("/l", NUMBERS_OF_LINK)] {
-        let query = Query::Stat {
+        let query = Query::At(PathQuery::Stat {
             path: path(alloc, text)?,
-        };
+        });
         let out = put_for(&rt, alloc, &mut disk, &query)?;
         assert_eq!(rt; out.bytes(), lines.as_bytes(), "{text}");
     }
     // a record that is refcounted
-    let query = Query::Stat {
+    let query = Query::At(PathQuery::Stat {
         path: path(alloc, "/a")?,
-    };
+    });
     let out = put_for(&rt, alloc, &mut disk, &query)?;
     assert!(rt; out.bytes().ends_with(b"\nExtent: 0 1 88 2\n"));
     Ok(())
@@ -127,16 +131,16 @@ fn puts_bytes(rt: HostRuntime) -> Result<(), Fail> {
     let alloc = rt.alloc();
     let mut disk = volume(&rt, alloc)?;
     for text in ["/a", "/b"] {
-        let query = Query::Cat {
+        let query = Query::At(PathQuery::Cat {
             path: path(alloc, text)?,
-        };
+        });
         let out = put_for(&rt, alloc, &mut disk, &query)?;
         assert_eq!(rt; out.bytes(), b"hello".as_slice(), "{text}");
     }
     // the file `f` by its other name, a hole among its bytes
-    let query = Query::Cat {
+    let query = Query::At(PathQuery::Cat {
         path: path(alloc, "/d/h")?,
-    };
+    });
     let out = put_for(&rt, alloc, &mut disk, &query)?;
     assert_eq!(rt; out.bytes(), [0; 12288].as_slice());
     Ok(())
@@ -154,9 +158,9 @@ fn refuses_queries(rt: HostRuntime) -> Result<(), Fail> {
         ("/l", DebugFault::WrongKind),
     ] {
         let mut out = MemSink::new(alloc);
-        let query = Query::Cat {
+        let query = Query::At(PathQuery::Cat {
             path: path(alloc, text)?,
-        };
+        });
         let answer = answered(&rt, alloc, &mut disk, &query, &mut out)?;
         assert_eq!(rt; answer, Some(fault), "{text}");
         assert_eq!(rt; out.bytes().len(), 0, "{text}");

@@ -44,8 +44,8 @@ pub fn ls_lines<D: Disk, const N: usize>(
     }
 }
 
-// Some lines, and then others.
-fn joined(first: Lines, others: Lines) -> Result<Lines, AllocError>
+/// Some lines, and then others.
+pub fn joined(first: Lines, others: Lines) -> Result<Lines, AllocError>
     ensures { IfOk result (λ lines. lines ≡ first ++ others) }
 {
     let mut lines = first.into_vec();

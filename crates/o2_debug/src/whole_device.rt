@@ -3,10 +3,8 @@ ghost use Rattle.std.specs.Prelude.{◌≡◌, ◌⊎◌, ◌≤◌, Some, OnOk,
 ghost use Rattle.std.specs.Result.{IfErr};
 ghost use Rattle.o2_disk.specs.Device.{ReadsOnly, SameDevice};
 ghost use Rattle.o2_disk.specs.Image.{Image};
-ghost use Rattle.o2_dir.specs.PathTexts.{IsPath};
 ghost use Rattle.o2_skeleton.specs.Skeleton.{HasSkeleton};
-ghost use Rattle.o2_debug.specs.Answers.{path_of};
-ghost use Rattle.o2_debug.specs.Commands.{AnswersAt, AnswersSomeAt};
+ghost use Rattle.o2_debug.specs.Queries.{NamesPath, AnswersAt, AnswersSomeAt};
 ghost use Rattle.o2_open.specs.Devices.{volume_on, IsOn};
 ghost use Rattle.o2_debug.specs.Fails.{QueryFails};
 
@@ -27,7 +25,7 @@ pub fn ask<D: Disk, K: Sink, const N: usize>(
 ) -> Result<(), DebugFault>
     requires least { 9 ≤ geo.now.block_bits }
     requires most { geo.now.block_bits ≤ 12 }
-    requires path { IsPath (path_of query.now) }
+    requires path { NamesPath query.now }
     requires kept { 1 ≤ N }
     ensures told { OnOk result ((I : Image) → (D.state device.old).content ≡ Some I
         → HasSkeleton (volume_on geo.now I) × AnswersAt query.now (volume_on geo.now I) (K.state out.old) (K.state out.new)) }

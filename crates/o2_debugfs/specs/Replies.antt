@@ -1,5 +1,6 @@
 -- The report of a query, and when each cause comes.
 use Rattle.std.specs.Prelude.{◌≡◌, ◌⊎◌, ℕ, List, codes, Some, None}
+use Rattle.std.specs.Option.{option_map_or}
 use Rattle.o2_disk.specs.Device.{Rose}
 use Rattle.o2_disk.specs.Output.{SinkState}
 use Rattle.o2_model.specs.Image.{Image}
@@ -12,8 +13,7 @@ use Rattle.o2_cause.specs.Taken.{Takes, TakesSome}
 use Rattle.o2_cause.specs.declared.cause.Cause.{Cause}
 use Rattle.o2_cause.specs.declared.cause.Cause.TheVariants.{Fine, NotOcfs2, Unsupported, Absent, WrongKind, Bad, DeviceFault, OutputFault, NoMemory}
 use Rattle.o2_open.specs.Openings.{IsServed}
-use Rattle.o2_debug.specs.Answers.{path_of}
-use Rattle.o2_debug.specs.Commands.{IsAnswerText, IsAbsent, IsOfWrongKind, FailsOn}
+use Rattle.o2_debug.specs.Queries.{named_path, IsAnswerText, IsAbsent, IsOfWrongKind, FailsOn}
 use Rattle.o2_debug.specs.declared.fault.DebugFault.{DebugFault}
 use Rattle.o2_debug.specs.declared.fault.DebugFault.TheVariants as debug
 use Rattle.o2_debug.specs.declared.query.Query.{Query}
@@ -56,17 +56,21 @@ ComesFor query I OutputFault = HasReport query I
 ComesFor query I NotOcfs2 = superblock_bits I ≡ None
 ComesFor query I (Unsupported what block) = (unsupported_feature I ≡ Some what) × (block ≡ 2)
 ComesFor query I (Bad check b) = IsServed I (λ v. FailsFirst skeleton_checks v check b ⊎ (HasSkeleton v × FailsOn query v check b))
-ComesFor query I (Absent path) = (path ≡ path_of query) × IsServed I (λ v. HasSkeleton v × IsAbsent query v)
-ComesFor query I (WrongKind path) = (path ≡ path_of query) × IsServed I (λ v. HasSkeleton v × IsOfWrongKind query v)
+ComesFor query I (Absent path) = (named_path query ≡ Some path) × IsServed I (λ v. HasSkeleton v × IsAbsent query v)
+ComesFor query I (WrongKind path) = (named_path query ≡ Some path) × IsServed I (λ v. HasSkeleton v × IsOfWrongKind query v)
 ComesFor query I DeviceFault = Unit {0}
 ComesFor query I NoMemory = Unit {0}
 ComesFor query I _ = ⊥
 
--- the cause of the same name, with the query's whole path
+-- a cause that tells the query's whole path. A query without a path ends by none of these, and memory may run out at any time.
+abbrev pub with_path : (List ℕ → Cause) → Query → Cause
+with_path cause query = option_map_or cause (named_path query) NoMemory
+
+-- the cause of the same name
 abbrev pub cause_of_query : Query → DebugFault → Cause
 cause_of_query query debug.NoMemory = NoMemory
 cause_of_query query debug.DeviceFault = DeviceFault
 cause_of_query query debug.OutputFault = OutputFault
-cause_of_query query debug.Absent = Absent (path_of query)
-cause_of_query query debug.WrongKind = WrongKind (path_of query)
+cause_of_query query debug.Absent = with_path (λ path. Absent path) query
+cause_of_query query debug.WrongKind = with_path (λ path. WrongKind path) query
 cause_of_query query (debug.Bad check block) = Bad check block

@@ -1,6 +1,5 @@
 // A run of debugfs.
-ghost use Rattle.o2_dir.specs.PathTexts.{IsPath};
-ghost use Rattle.o2_debug.specs.Answers.{path_of};
+ghost use Rattle.o2_debug.specs.Queries.{NamesPath};
 ghost use Rattle.o2_debugfs.specs.QueryRun.{QueryRun};
 
 use crate::tell::tell;
@@ -18,7 +17,7 @@ pub fn run_query<D: Disk, K: Sink>(
     query: Query,
     out: &mut K,
 ) -> Cause
-    requires { IsPath (path_of query) }
+    requires { NamesPath query }
     ensures { QueryRun query name.now (D.state device.old) (D.state device.new) (K.state out.old) (K.state out.new) result }
 {
     match tell(alloc, device, name, query, out) {

@@ -3,15 +3,13 @@ ghost use Rattle.std.specs.Prelude.{◌≡◌, ◌≢◌, Some, OnOk, IfErr, IsE
 ghost use Rattle.o2_disk.specs.Device.{ReadsOnly, Rose, IsAttachedOnce, IsAttachedAtMostOnce, IsWritable};
 ghost use Rattle.o2_disk.specs.Output.{FailsLast};
 ghost use Rattle.o2_model.specs.Image.{Image};
-ghost use Rattle.o2_dir.specs.PathTexts.{IsPath};
-ghost use Rattle.o2_debug.specs.Answers.{path_of};
+ghost use Rattle.o2_debug.specs.Queries.{NamesPath};
 ghost use Rattle.o2_cause.specs.Causes.{IsDone, IsRefusal};
 ghost use Rattle.o2_debugfs.specs.QueryRun.{IsOfQuery};
 ghost use Rattle.o2_debugfs.specs.Replies.{ComesFor, TakesReport, TakesSomeOfReport, BeginsReport, cause_of_query};
 
 use o2_cause::Cause;
 use o2_debug::{DebugFault, Query, ask};
-use o2_dir::PathText;
 use o2_disk::{Disk, How, Sink};
 use o2_open::open_for_reading;
 use std::alloc::Global;
@@ -27,7 +25,7 @@ pub fn tell<D: Disk, K: Sink>(
     query: Query,
     out: &mut K,
 ) -> Result<(), Cause>
-    requires path { IsPath (path_of query) }
+    requires path { NamesPath query }
     ensures report { OnOk result ((I : Image) → (D.state device.old).content ≡ Some I → TakesReport query I (K.state out.old) (K.state out.new)) }
     ensures told { IfErr result (λ cause. (I : Image) → (D.state device.old).content ≡ Some I → ComesFor query I cause) }
     ensures cut { IfErr result (λ cause. IsDone cause → (I : Image) → (D.state device.old).content ≡ Some I → TakesSomeOfReport query I (K.state out.old) (K.state out.new)) }
@@ -53,29 +51,22 @@ pub fn tell<D: Disk, K: Sink>(
 
 // The cause of this fault.
 fn cause_for(fault: DebugFault, query: Query) -> Cause
-    ensures { result ≡ cause_of_query query fault }
+    ensures is { result ≡ cause_of_query query fault }
+    ensures causes { IsOfQuery result }
+    ensures not_fine { result ≢ Cause.Fine }
 {
     match fault {
         DebugFault::NoMemory => Cause::NoMemory,
         DebugFault::DeviceFault => Cause::DeviceFault,
         DebugFault::OutputFault => Cause::OutputFault,
-        DebugFault::Absent => Cause::Absent {
-            path: path_in(query),
+        DebugFault::Absent => match query.into_path() {
+            Some(path) => Cause::Absent { path },
+            None => Cause::NoMemory,
         },
-        DebugFault::WrongKind => Cause::WrongKind {
-            path: path_in(query),
+        DebugFault::WrongKind => match query.into_path() {
+            Some(path) => Cause::WrongKind { path },
+            None => Cause::NoMemory,
         },
         DebugFault::Bad { check, block } => Cause::Bad { check, block },
-    }
-}
-
-// The path of the query, taken out of it.
-fn path_in(query: Query) -> PathText
-    ensures { result ≡ path_of query }
-{
-    match query {
-        Query::Ls { path } => path,
-        Query::Stat { path } => path,
-        Query::Cat { path } => path,
     }
 }

@@ -4,6 +4,7 @@ use Rattle.std.proofs.lemmas.Bool.{cases_order}
 use Rattle.std.proofs.lemmas.List.{drop_more, take-append-drop}
 use Rattle.std.proofs.lemmas.List.Elements.{All-nil}
 use Rattle.std.proofs.lemmas.List.Sums.{sum_by-append, sum_by-cons}
+use Rattle.o2_debug.specs.declared.query.Query.TheVariants.{Stats}
 use Rattle.o2_words.specs.Names.{text_of}
 use Rattle.o2_words.specs.Kinds.{Fits}
 use Rattle.o2_words.specs.LetterWords.{letter_of}
@@ -70,7 +71,7 @@ unfolding sample_of
 sample_fits (Fixed name) = refl
 sample_fits Text = tt
 sample_fits Device = record { some = omega arith; no_option = λ is. absurd (omega (arith, is)) }
-sample_fits Query = inr (inl refl)
+sample_fits Query = inl (Stats, refl)
 sample_fits Number = record { some = omega arith; most = omega arith; digits = refl }
 sample_fits (Letters answer) = answer_word answer (codes "-" ++ letter_of answer ∷ []) (inl refl)
 

@@ -2,7 +2,8 @@
 use Rattle.std.proofs.Common.{◌≡◌, ◌≢◌, ◌⊎◌, inl, inr, ⊎_elim, ℕ, List, [], ◌∷◌, ◌++◌, length, get_or, codes, refl, sym, ◌∙◌, ap, subst, arith, nat_eq, false}
 use Rattle.std.proofs.lemmas.Bool.Decides.{nat_tests}
 use Rattle.o2_debug.specs.declared.query.Query.{Query}
-use Rattle.o2_debug.specs.declared.query.Query.TheVariants.{Ls, Stat, Cat}
+use Rattle.o2_debug.specs.declared.query.Query.TheVariants.{Stats, SlotMap, At}
+use Rattle.o2_debug.specs.declared.query.PathQuery.TheVariants.{Ls, Stat, Cat, Refcount}
 use Rattle.o2_words.specs.CommandLine.{Words, IsTunefs, IsDebugfs, IsFsck, IsFsckOf, IsCheckLine, IsMendLine, IsLine, IsFirst, AreFirst, IsNotBuilt, RefusesWords, word_of}
 use Rattle.o2_words.specs.Commands.{AsksQuery}
 use Rattle.o2_words.specs.QueryWords.{Asks, IsForLater}
@@ -55,27 +56,18 @@ not_both words line asks = let same : codes "tunefs" ≡ codes "debugfs" = (let 
 -- ---- a word asks for one thing
 -- what is answered waits for no later version
 pub not_later : (query : Query) (word : List ℕ) → Asks query word → IsForLater word → ⊥
-not_later (Ls path) word asks later =
-    ⊎_elim (λ e. apart 0 (codes "ls " ++ path) (codes "stats") refl (sym asks.form ∙ e))
-    (⊎_elim (λ e. apart 0 (codes "ls " ++ path) (codes "slotmap") refl (sym asks.form ∙ e))
-    (⊎_elim (λ named. apart 0 (codes "ls " ++ path) (codes "refcount " ++ named.0) refl (sym asks.form ∙ named.1.form))
-    (⊎_elim (λ named. apart 1 (codes "ls " ++ path) (codes "logdump " ++ named.0) refl (sym asks.form ∙ named.1.form))
-    (λ named. apart 0 (codes "ls " ++ path) (codes "icheck " ++ named.0) refl (sym asks.form ∙ named.1.form)))))
-    later
-not_later (Stat path) word asks later =
-    ⊎_elim (λ e. apart 4 (codes "stat " ++ path) (codes "stats") refl (sym asks.form ∙ e))
-    (⊎_elim (λ e. apart 1 (codes "stat " ++ path) (codes "slotmap") refl (sym asks.form ∙ e))
-    (⊎_elim (λ named. apart 0 (codes "stat " ++ path) (codes "refcount " ++ named.0) refl (sym asks.form ∙ named.1.form))
-    (⊎_elim (λ named. apart 0 (codes "stat " ++ path) (codes "logdump " ++ named.0) refl (sym asks.form ∙ named.1.form))
-    (λ named. apart 0 (codes "stat " ++ path) (codes "icheck " ++ named.0) refl (sym asks.form ∙ named.1.form)))))
-    later
-not_later (Cat path) word asks later =
-    ⊎_elim (λ e. apart 0 (codes "cat " ++ path) (codes "stats") refl (sym asks.form ∙ e))
-    (⊎_elim (λ e. apart 0 (codes "cat " ++ path) (codes "slotmap") refl (sym asks.form ∙ e))
-    (⊎_elim (λ named. apart 0 (codes "cat " ++ path) (codes "refcount " ++ named.0) refl (sym asks.form ∙ named.1.form))
-    (⊎_elim (λ named. apart 0 (codes "cat " ++ path) (codes "logdump " ++ named.0) refl (sym asks.form ∙ named.1.form))
-    (λ named. apart 0 (codes "cat " ++ path) (codes "icheck " ++ named.0) refl (sym asks.form ∙ named.1.form)))))
-    later
+not_later Stats word asks later =
+    ⊎_elim (λ named. apart 0 (codes "stats") (codes "logdump " ++ named.0) refl (sym asks ∙ named.1.form)) (λ named. apart 0 (codes "stats") (codes "icheck " ++ named.0) refl (sym asks ∙ named.1.form)) later
+not_later SlotMap word asks later =
+    ⊎_elim (λ named. apart 0 (codes "slotmap") (codes "logdump " ++ named.0) refl (sym asks ∙ named.1.form)) (λ named. apart 0 (codes "slotmap") (codes "icheck " ++ named.0) refl (sym asks ∙ named.1.form)) later
+not_later (At (Ls path)) word asks later =
+    ⊎_elim (λ named. apart 1 (codes "ls " ++ path) (codes "logdump " ++ named.0) refl (sym asks.form ∙ named.1.form)) (λ named. apart 0 (codes "ls " ++ path) (codes "icheck " ++ named.0) refl (sym asks.form ∙ named.1.form)) later
+not_later (At (Stat path)) word asks later =
+    ⊎_elim (λ named. apart 0 (codes "stat " ++ path) (codes "logdump " ++ named.0) refl (sym asks.form ∙ named.1.form)) (λ named. apart 0 (codes "stat " ++ path) (codes "icheck " ++ named.0) refl (sym asks.form ∙ named.1.form)) later
+not_later (At (Cat path)) word asks later =
+    ⊎_elim (λ named. apart 0 (codes "cat " ++ path) (codes "logdump " ++ named.0) refl (sym asks.form ∙ named.1.form)) (λ named. apart 0 (codes "cat " ++ path) (codes "icheck " ++ named.0) refl (sym asks.form ∙ named.1.form)) later
+not_later (At (Refcount path)) word asks later =
+    ⊎_elim (λ named. apart 0 (codes "refcount " ++ path) (codes "logdump " ++ named.0) refl (sym asks.form ∙ named.1.form)) (λ named. apart 0 (codes "refcount " ++ path) (codes "icheck " ++ named.0) refl (sym asks.form ∙ named.1.form)) later
 
 -- none are one of fsck and one of these
 fsck_first : (words : Words) → IsFsck words → (rest : Words) × (words ≡ codes "fsck" ∷ rest)

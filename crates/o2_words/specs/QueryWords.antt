@@ -3,8 +3,11 @@ use Rattle.std.specs.Prelude.{◌≡◌, ◌⊎◌, ℕ, ◌≤◌, true, List, 
 use Rattle.std.specs.Char.{is_ascii_digit}
 use Rattle.std.specs.List.{list_all}
 use Rattle.o2_dir.specs.PathTexts.{IsPath}
+use Rattle.o2_debug.specs.Answers.{path_of}
+use Rattle.o2_debug.specs.declared.query.PathQuery.{PathQuery}
+use Rattle.o2_debug.specs.declared.query.PathQuery.TheVariants.{Ls, Stat, Cat, Refcount}
 use Rattle.o2_debug.specs.declared.query.Query.{Query}
-use Rattle.o2_debug.specs.declared.query.Query.TheVariants.{Ls, Stat, Cat}
+use Rattle.o2_debug.specs.declared.query.Query.TheVariants.{Stats, SlotMap, At}
 
 -- a number on a command line: 1 to 18 digits
 pub record IsNumber (text : List ℕ) : Type 0 where
@@ -22,18 +25,23 @@ pub record NamesNumber (name number word : List ℕ) : Type 0 where
   pub form : word ≡ name ++ number
   pub is : IsNumber number
 
+-- the name of a query about what stands at the end of a path, with the space behind it
+abbrev pub query_name : PathQuery → List ℕ
+query_name (Ls path) = codes "ls "
+query_name (Stat path) = codes "stat "
+query_name (Cat path) = codes "cat "
+query_name (Refcount path) = codes "refcount "
+
 -- the word asks for this
 abbrev pub Asks : Query → List ℕ → Type 0
-Asks (Ls path) word = NamesPath (codes "ls ") path word
-Asks (Stat path) word = NamesPath (codes "stat ") path word
-Asks (Cat path) word = NamesPath (codes "cat ") path word
+Asks Stats word = word ≡ codes "stats"
+Asks SlotMap word = word ≡ codes "slotmap"
+Asks (At query) word = NamesPath (query_name query) (path_of query) word
 
 -- the word asks for what is not answered yet
 abbrev pub IsForLater : List ℕ → Type 0
 IsForLater word =
-    (word ≡ codes "stats") ⊎ (word ≡ codes "slotmap")
-    ⊎ ((path : List ℕ) × NamesPath (codes "refcount ") path word)
-    ⊎ ((number : List ℕ) × NamesNumber (codes "logdump ") number word)
+    ((number : List ℕ) × NamesNumber (codes "logdump ") number word)
     ⊎ ((number : List ℕ) × NamesNumber (codes "icheck ") number word)
 
 -- the word asks for something

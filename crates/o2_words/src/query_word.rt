@@ -3,16 +3,19 @@ ghost use Rattle.std.specs.Prelude.{◌≡◌, ◌≢◌, ◌++◌, ◌↔◌, �
 ghost use Rattle.std.specs.List.{list_all};
 ghost use Rattle.std.specs.Char.{is_ascii_digit};
 ghost use Rattle.o2_words.specs.QueryWords.{IsNumber, NamesPath, NamesNumber, IsForLater, IsQueryWord};
-ghost use Rattle.o2_words.specs.AskedWords.{IsAsked};
+ghost use Rattle.o2_words.specs.AskedWords.{IsAsked, AsksOfNoPath};
 
 use o2_dir::is_path;
 
 /// What a word behind `debugfs -R` asks for, with its path.
 #[derive(Clone, Copy)]
 pub enum Asked<'a> {
+    Stats,
+    SlotMap,
     Ls(&'a str),
     Stat(&'a str),
     Cat(&'a str),
+    Refcount(&'a str),
     /// What is not answered yet.
     Later,
 }
@@ -24,6 +27,25 @@ const MOST_DIGITS: usize = 18;
 pub fn read_query_word(word: &str) -> Option<Asked<'_>>
     ensures { MatchOption result (IsQueryWord word.now → ⊥) (λ asked. IsAsked asked word.now) }
 {
+    if is_just(word, "stats") {
+        return Some(Asked::Stats);
+    }
+    if is_just(word, "slotmap") {
+        return Some(Asked::SlotMap);
+    }
+    if let Some(asked) = read_with_path(word) {
+        return Some(asked);
+    }
+    if is_for_later(word) {
+        return Some(Asked::Later);
+    }
+    None
+}
+
+/// Reads such a word that names a path.
+fn read_with_path(word: &str) -> Option<Asked<'_>>
+    ensures { MatchOption result (AsksOfNoPath word.now) (λ asked. IsAsked asked word.now) }
+{
     if let Some(path) = path_behind(word, "ls ") {
         return Some(Asked::Ls(path));
     }
@@ -33,8 +55,8 @@ pub fn read_query_word(word: &str) -> Option<Asked<'_>>
     if let Some(path) = path_behind(word, "cat ") {
         return Some(Asked::Cat(path));
     }
-    if is_for_later(word) {
-        return Some(Asked::Later);
+    if let Some(path) = path_behind(word, "refcount ") {
+        return Some(Asked::Refcount(path));
     }
     None
 }
@@ -52,20 +74,14 @@ pub fn is_query_word(word: &str) -> bool
 fn is_for_later(word: &str) -> bool
     ensures { IsTrue result ↔ IsForLater word.now }
 {
-    word == "stats"
-        || word == "slotmap"
-        || names_path(word, "refcount ")
-        || names_number(word, "logdump ")
-        || names_number(word, "icheck ")
+    names_number(word, "logdump ") || names_number(word, "icheck ")
 }
 
-fn names_path(word: &str, name: &str) -> bool
-    ensures { IsTrue result ↔ ((path : List ℕ) × NamesPath name.now path word.now) }
+// Whether the word is this one.
+fn is_just(word: &str, name: &str) -> bool
+    ensures { IsTrue result ↔ (word.now ≡ name.now) }
 {
-    match path_behind(word, name) {
-        None => false,
-        Some(_) => true,
-    }
+    word == name
 }
 
 fn names_number(word: &str, name: &str) -> bool

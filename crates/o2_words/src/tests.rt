@@ -1,7 +1,7 @@
 // The words of command lines, and where they leave their forms.
 use crate::place::farthest;
 use crate::{Command, Kind, Name, Part, WordFault, read_words};
-use o2_debug::Query;
+use o2_debug::{PathQuery, Query};
 use std::alloc::{AllocError, Global};
 use std::test::Fail;
 
@@ -21,7 +21,7 @@ fn fault_of(alloc: Global, line: &str) -> Result<Option<WordFault>, AllocError> 
 }
 
 // Each line of words, and the place at which it leaves the command lines.
-const USAGE: [(&str, u32); 63] = [
+const USAGE: [(&str, u32); 65] = [
     ("", 0),
     ("Tunefs", 0),
     ("tunefs ", 0),
@@ -62,6 +62,8 @@ const USAGE: [(&str, u32); 63] = [
     ("debugfs|-R|ls /a b", 3),
     ("debugfs|-R|cat //a|-d", 3),
     ("debugfs|-R|stats|disk|more", 4),
+    ("debugfs|-R|stats /|disk", 2),
+    ("debugfs|-R|refcount a|disk", 2),
     ("fsck", 1),
     ("fsck|disk", 1),
     ("fsck|n|disk", 1),
@@ -88,7 +90,7 @@ const USAGE: [(&str, u32); 63] = [
 ];
 
 // Lines that a later version serves.
-const LATER: [&str; 15] = [
+const LATER: [&str; 14] = [
     "mkfs",
     "mkfs|-b|4096|disk",
     "fsck|-y|disk",
@@ -96,8 +98,7 @@ const LATER: [&str; 15] = [
     "fsck|-yf|disk",
     "fsck|-f|-y|disk",
     "fsck|-y|-f|disk",
-    "debugfs|-R|stats|disk",
-    "debugfs|-R|refcount /a b/c|disk",
+    "debugfs|-R|logdump 0|disk",
     "debugfs|-R|icheck 123456789012345678|disk",
     "sample|1000|disk",
     "tunefs|-N",
@@ -130,9 +131,12 @@ fn refuses_words(rt: HostRuntime) -> Result<(), Fail> {
 // What a query asks for, as text.
 fn query_text(alloc: Global, query: Query) -> Result<String, AllocError> {
     match query {
-        Query::Ls { path } => format!(in alloc; "ls {path}"),
-        Query::Stat { path } => format!(in alloc; "stat {path}"),
-        Query::Cat { path } => format!(in alloc; "cat {path}"),
+        Query::Stats => String::from_str(alloc, "stats"),
+        Query::SlotMap => String::from_str(alloc, "slotmap"),
+        Query::At(PathQuery::Ls { path }) => format!(in alloc; "ls {path}"),
+        Query::At(PathQuery::Stat { path }) => format!(in alloc; "stat {path}"),
+        Query::At(PathQuery::Cat { path }) => format!(in alloc; "cat {path}"),
+        Query::At(PathQuery::Refcount { path }) => format!(in alloc; "refcount {path}"),
     }
 }
 
@@ -154,7 +158,14 @@ fn reads_words(rt: HostRuntime) -> Result<(), Fail> {
         Ok(Command::Check { device: _device }) => assert!(rt; false),
         Err(_fault) => assert!(rt; false),
     }
-    for asked in ["ls /", "stat /a b/c", "cat //a"] {
+    for asked in [
+        "ls /",
+        "stat /a b/c",
+        "cat //a",
+        "refcount /a",
+        "stats",
+        "slotmap",
+    ] {
         let line = format!(in alloc; "debugfs|-R|{asked}|disk")?;
         match read_words(alloc, &words_of(alloc, &line)?) {
             Ok(Command::Debug { query, device }) => {

@@ -11,7 +11,7 @@ use crate::fsck_line::{last_place, read_fsck};
 use crate::place::farthest;
 use crate::query_word::{Asked, read_query_word};
 use crate::{Answer, Kind, Name};
-use o2_debug::Query;
+use o2_debug::{PathQuery, Query};
 use o2_dir::PathText;
 use o2_view::Bytes;
 use std::alloc::{AllocError, Global};
@@ -95,15 +95,20 @@ fn query_of(alloc: Global, asked: Asked<'_>) -> Result<Query, WordFault>
     ensures { MatchResult result (λ query. (word : List ℕ) → IsAsked asked.entry word → Asks query word) (λ fault. (fault ≡ WordFault.NoMemory) ⊎ ((fault ≡ WordFault.Later) × (asked.entry ≡ Asked.Later))) }
 {
     match asked {
-        Asked::Ls(path) => Ok(Query::Ls {
+        Asked::Stats => Ok(Query::Stats),
+        Asked::SlotMap => Ok(Query::SlotMap),
+        Asked::Ls(path) => Ok(Query::At(PathQuery::Ls {
             path: path_text(alloc, path)?,
-        }),
-        Asked::Stat(path) => Ok(Query::Stat {
+        })),
+        Asked::Stat(path) => Ok(Query::At(PathQuery::Stat {
             path: path_text(alloc, path)?,
-        }),
-        Asked::Cat(path) => Ok(Query::Cat {
+        })),
+        Asked::Cat(path) => Ok(Query::At(PathQuery::Cat {
             path: path_text(alloc, path)?,
-        }),
+        })),
+        Asked::Refcount(path) => Ok(Query::At(PathQuery::Refcount {
+            path: path_text(alloc, path)?,
+        })),
         Asked::Later => Err(WordFault::Later),
     }
 }

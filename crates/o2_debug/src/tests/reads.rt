@@ -3,7 +3,7 @@ ghost use Rattle.std.specs.Prelude.{◌≤◌, ◌+◌, length};
 ghost use Rattle.o2_disk.specs.Device.{IsWritable};
 
 use super::{answered, path, volume};
-use crate::Query;
+use crate::{PathQuery, Query};
 use o2_disk::{Disk, Failed, How, MemDisk, MemSink};
 use o2_ondisk::{
     Dinode, ExtentBlock, ExtentListHeader, ExtentRec, ExtentSize, InodeFlags, Signature,
@@ -138,15 +138,15 @@ fn reads_each_block_once(rt: HostRuntime) -> Result<(), Fail> {
     let alloc = rt.alloc();
     let mut disk = volume_with_tree(&rt, alloc)?;
     // The file `a`, whose record stands in its dinode.
-    let without_tree = Query::Stat {
+    let without_tree = Query::At(PathQuery::Stat {
         path: path(alloc, "/a")?,
-    };
-    let stat = Query::Stat {
+    });
+    let stat = Query::At(PathQuery::Stat {
         path: path(alloc, "/f")?,
-    };
-    let cat = Query::Cat {
+    });
+    let cat = Query::At(PathQuery::Cat {
         path: path(alloc, "/f")?,
-    };
+    });
     let first = calls_of(&rt, alloc, &mut disk, &without_tree)?;
     assert!(rt; first < 400);
     // The two extent blocks.
@@ -161,12 +161,12 @@ fn reads_each_block_once(rt: HostRuntime) -> Result<(), Fail> {
 fn reads_each_inode_on_the_way_twice_at_most(rt: HostRuntime) -> Result<(), Fail> {
     let alloc = rt.alloc();
     let mut disk = volume(&rt, alloc)?;
-    let root = Query::Stat {
+    let root = Query::At(PathQuery::Stat {
         path: path(alloc, "/")?,
-    };
-    let dots = Query::Stat {
+    });
+    let dots = Query::At(PathQuery::Stat {
         path: path(alloc, "/./../.")?,
-    };
+    });
     let at_root = calls_of(&rt, alloc, &mut disk, &root)?;
     assert!(rt; at_root < 400);
     // Each name is looked up in the root, and the inode that it names is judged.
