@@ -6,17 +6,20 @@ use std::alloc::Global;
 use std::process::Abort;
 use std::test::Fail;
 
-// A disk of so many sectors, that can be written.
-fn disk(alloc: Global, sectors: u64) -> Result<MemDisk, Fail> {
-    let mut disk = MemDisk::new(alloc, sectors)?;
+fn whole_volume(rt: &impl Abort, alloc: Global) -> Result<MemDisk, Fail> {
+    let mut disk = MemDisk::new(alloc, 128)?;
     disk.attach(alloc, "made", How::ReadWrite)?;
+    assert!(rt; disk.sectors() >= 128);
+    put_whole_volume(&mut disk)?;
     Ok(disk)
 }
 
-fn whole_volume(rt: &impl Abort, alloc: Global) -> Result<MemDisk, Fail> {
-    let mut disk = disk(alloc, 128)?;
+// The volume with one file, whose system directory names nothing but itself.
+fn small_volume(rt: &impl Abort, alloc: Global) -> Result<MemDisk, Fail> {
+    let mut disk = MemDisk::new(alloc, 128)?;
+    disk.attach(alloc, "made", How::ReadWrite)?;
     assert!(rt; disk.sectors() >= 128);
-    put_whole_volume(&mut disk)?;
+    put_small_volume(&mut disk)?;
     Ok(disk)
 }
 
@@ -51,9 +54,7 @@ fn finds_a_volume_consistent(rt: HostRuntime) -> Result<(), Fail> {
 #[test]
 fn tells_what_fails_on_a_tree_made_by_hand(rt: HostRuntime) -> Result<(), Fail> {
     let alloc = rt.alloc();
-    let mut disk = disk(alloc, 128)?;
-    assert!(rt; disk.sectors() >= 128);
-    put_small_volume(&mut disk)?;
+    let mut disk = small_volume(&rt, alloc)?;
     let mut out = MemSink::new(alloc);
     assert_eq!(rt;
         check(alloc, &mut disk, &["fsck", "-n", "disk"], &mut out)?,
@@ -70,7 +71,7 @@ fn tells_what_fails_on_a_tree_made_by_hand(rt: HostRuntime) -> Result<(), Fail> 
 #[test]
 fn finds_no_volume(rt: HostRuntime) -> Result<(), Fail> {
     let alloc = rt.alloc();
-    let mut disk = disk(alloc, 1)?;
+    let mut disk = MemDisk::new(alloc, 1)?;
     let mut out = MemSink::new(alloc);
     assert_eq!(rt;
         check(alloc, &mut disk, &["fsck", "-fn", "disk"], &mut out)?,
@@ -91,9 +92,7 @@ fn one_put_fails(rt: HostRuntime) -> Result<(), Fail> {
         check(alloc, &mut sound, &["fsck", "-n", "disk"], &mut out)?,
         65
     );
-    let mut bad = disk(alloc, 128)?;
-    assert!(rt; bad.sectors() >= 128);
-    put_small_volume(&mut bad)?;
+    let mut bad = small_volume(&rt, alloc)?;
     let mut out = MemSink::new(alloc);
     out.fail_at(1);
     assert_eq!(rt;

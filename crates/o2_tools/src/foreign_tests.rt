@@ -97,8 +97,8 @@ fn finds_it_consistent_and_answers(rt: HostRuntime) -> Result<(), Fail> {
 fn refuses_checksums(rt: HostRuntime) -> Result<(), Fail> {
     let alloc = rt.alloc();
     let mut disk = foreign_volume(&rt, alloc, 128)?;
-    assert!(rt; disk.sectors() >= 128);
     disk.attach(alloc, "made", How::ReadWrite)?;
+    assert!(rt; disk.sectors() >= 128);
     put(&mut disk, 2, 0xe1, &[0xbf])?;
     let (status, out) = said(alloc, &mut disk, &["fsck", "-fn", "disk"])?;
     assert_eq!(rt;
@@ -114,8 +114,8 @@ fn refuses_checksums(rt: HostRuntime) -> Result<(), Fail> {
 fn refuses_attributes(rt: HostRuntime) -> Result<(), Fail> {
     let alloc = rt.alloc();
     let mut disk = foreign_volume(&rt, alloc, 2096)?;
-    assert!(rt; disk.sectors() >= 2096);
     disk.attach(alloc, "made", How::ReadWrite)?;
+    assert!(rt; disk.sectors() >= 2096);
     put(&mut disk, 2, 0x14, &[0x06, 0x01])?;
     put(&mut disk, 24, 0xc6, &[1])?;
     put(&mut disk, 24, 0xd8, &[0x18, 0x08])?;

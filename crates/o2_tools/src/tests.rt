@@ -99,7 +99,7 @@ fn with_label(sector: &[u8; 512], label: &[u8]) -> [u8; 512] {
 }
 
 // Each line of words, parted by bars, and the line by which it is refused.
-const REFUSED: [(&str, &str); 54] = [
+const REFUSED: [(&str, &str); 53] = [
     ("", "usage: word 0\n"),
     ("Tunefs", "usage: word 0\n"),
     ("tunefs ", "usage: word 0\n"),
@@ -149,11 +149,7 @@ const REFUSED: [(&str, &str); 54] = [
     ("debugfs|-R|ls /a b", "usage: word 3\n"),
     ("debugfs|-R|cat //a|-d", "usage: word 3\n"),
     ("debugfs|-R|stats|disk|more", "usage: word 4\n"),
-    ("debugfs|-R|stats|disk", "debugfs: not built yet\n"),
-    (
-        "debugfs|-R|refcount /a b/c|disk",
-        "debugfs: not built yet\n",
-    ),
+    ("debugfs|-R|logdump 0|disk", "debugfs: not built yet\n"),
     (
         "debugfs|-R|icheck 123456789012345678|disk",
         "debugfs: not built yet\n",

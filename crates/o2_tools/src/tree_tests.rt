@@ -34,6 +34,17 @@ fn ask(alloc: Global, disk: &mut MemDisk, query: &str, out: &mut MemSink) -> Res
     Ok(done.status)
 }
 
+// What `stats` puts.
+const STATS: &str = "Block size: 512
+Cluster size: 4096
+Clusters: 16
+Used: 15
+Slots: 1
+Label: 
+UUID: 00000000-0000-0000-0000-000000000000
+Journal 0: 1
+";
+
 // What `ls /` puts.
 const ROOT: &str = "18 2 .
 18 2 ..
@@ -51,6 +62,10 @@ fn answers_queries(rt: HostRuntime) -> Result<(), Fail> {
     for (query, status, text) in [
         ("ls /", 0, ROOT),
         ("cat /a", 0, "hello"),
+        ("refcount /a", 0, "11 1 2\n"),
+        ("refcount /f", 1, "debugfs: wrong kind: /f\n"),
+        ("slotmap", 0, ""),
+        ("stats", 0, STATS),
         ("cat /a/b", 1, "debugfs: wrong kind: /a/b\n"),
         ("cat /c", 1, "debugfs: no such path: /c\n"),
     ] {
