@@ -47,6 +47,7 @@ fn finds_a_volume_consistent(rt: HostRuntime) -> Result<(), Fail> {
 fn tells_what_fails(rt: HostRuntime) -> Result<(), Fail> {
     let alloc = rt.alloc();
     let mut disk = volume(&rt, alloc)?;
+    disk.attach(alloc, "made", How::ReadWrite)?;
     assert!(rt; disk.sectors() == 128);
     turn(&mut disk, 18, 0)?;
     let mut out = MemSink::new(alloc);
