@@ -2,12 +2,12 @@
 ghost use Rattle.std.specs.Prelude.{◌≡◌, ◌<◌};
 ghost use Rattle.o2_disk.specs.Device.{SameDevice, IsWritable};
 
-use crate::{CheckFault, Report, check, owners};
+use crate::{CheckFault, Owners, Report, check, owners};
 use o2_disk::{Disk, How, MemDisk};
 use o2_model::{Check, Geo, Owner};
 use o2_ondisk::DxSeed;
 use o2_test_volumes::put_whole_volume;
-use o2_view::View;
+use o2_view::{ReadFault, View};
 use std::alloc::Global;
 use std::process::Abort;
 use std::test::Fail;
@@ -85,12 +85,23 @@ fn turn<D: Disk>(disk: &mut D, block: u64, at: usize) -> Result<(), Fail>
 fn tells_what_fails_in_order(rt: HostRuntime) -> Result<(), Fail> {
     let alloc = rt.alloc();
     let mut disk = volume(&rt, alloc)?;
+    disk.attach(alloc, "made", How::ReadWrite)?;
     assert!(rt; disk.sectors() == 128);
     turn(&mut disk, 29, 0x28 + 1)?;
+    assert!(rt; disk.sectors() == 128);
     let report = report_on(alloc, &mut disk)?;
     assert!(rt; !report.pairs().as_slice().is_empty());
     assert_eq!(rt; report.pairs().as_slice()[0], (Check::InodeKind, 29));
     Ok(())
+}
+
+// The owners of a cluster of such a disk.
+fn owners_on<D: Disk>(alloc: Global, disk: &mut D, cluster: u32) -> Result<Owners, ReadFault>
+    requires sectors { (D.state disk.old).sectors ≡ 128 }
+    requires within { cluster < 16 }
+{
+    let mut view = View::<D, 1>::new(alloc, disk, 9, 128)?;
+    owners(alloc, &mut view, &numbers(), cluster)
 }
 
 // Cluster 11 is shared by the files 30 and 31, and nobody has cluster 15.
@@ -98,7 +109,6 @@ fn tells_what_fails_in_order(rt: HostRuntime) -> Result<(), Fail> {
 fn tells_all_owners_of_a_cluster(rt: HostRuntime) -> Result<(), Fail> {
     let alloc = rt.alloc();
     let mut disk = volume(&rt, alloc)?;
-    assert!(rt; disk.sectors() == 128);
     for (cluster, owner) in [
         (0, [Owner::Super].as_slice()),
         (11, [Owner::Inode(30), Owner::Inode(31)].as_slice()),
@@ -106,9 +116,9 @@ fn tells_all_owners_of_a_cluster(rt: HostRuntime) -> Result<(), Fail> {
         (12, [Owner::TruncateLog(0)].as_slice()),
         (15, [].as_slice()),
     ] {
-        let mut view = View::<MemDisk, 1>::new(alloc, &mut disk, 9, 128)?;
+        assert!(rt; disk.sectors() == 128);
         assert!(rt; cluster < 16);
-        let found = owners(alloc, &mut view, &numbers(), cluster)?;
+        let found = owners_on(alloc, &mut disk, cluster)?;
         assert_eq!(rt; found.as_slice(), owner, "{cluster}");
     }
     Ok(())
