@@ -36,16 +36,25 @@ const IDENTIFIER: [u8; 16] = [
     0x01, 0x23, 0x45, 0x67, 0x89, 0xab, 0xcd, 0xef, 0xf0, 0xe1, 0xd2, 0xc3, 0xb4, 0xa5, 0x96, 0x87,
 ];
 
-// Puts a label and an identifier into the superblock. Behind the NUL that ends the label there is another letter.
+// Puts a label and an identifier into the bytes of block 2. Behind the NUL that ends the label there is another letter.
+fn name_super(block: &mut [u8; 512]) {
+    block[0x110] = b'v';
+    block[0x111] = b'o';
+    block[0x112] = b'l';
+    block[0x114] = b'x';
+    for (k, byte) in IDENTIFIER.iter().enumerate() {
+        block[0x150 + k] = *byte;
+    }
+}
+
+// Puts them into the superblock.
 fn put_names<D: Disk>(disk: &mut D) -> Result<(), Failed>
     requires disk { 128 ≤ (D.state disk.old).sectors }
     requires writable { IsWritable (D.state disk.old).attached }
 {
     let mut block = [0; 512];
     disk.read(2, &mut block)?;
-    block[0x110..0x113].copy_from_slice(b"vol".as_slice());
-    block[0x114] = b'x';
-    block[0x150..0x160].copy_from_slice(&IDENTIFIER);
+    name_super(&mut block);
     disk.write(2, &block)
 }
 
