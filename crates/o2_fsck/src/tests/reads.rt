@@ -15,10 +15,10 @@ fn calls_of(rt: &impl Abort, alloc: Global, disk: &mut MemDisk) -> Result<u64, F
     Ok(disk.calls().saturating_sub(before))
 }
 
-// The superblock is read once by the search for it, and the volume's own inodes once for the skeleton and once for the pass over all
-// inodes. So no block is read more than twice.
+// The superblock is read once by the search for it. The volume's own inodes and the groups are read once for the skeleton and once for
+// the tables, a local alloc and a truncate log once more for what they hold, and all other blocks once.
 #[test]
-fn reads_no_block_more_than_twice(rt: HostRuntime) -> Result<(), Fail> {
+fn calls_the_disk_so_often(rt: HostRuntime) -> Result<(), Fail> {
     let alloc = rt.alloc();
     let mut disk = volume(&rt, alloc)?;
     assert_eq!(rt; calls_of(&rt, alloc, &mut disk)?, 44);
