@@ -36,7 +36,7 @@ fn answers_a_query(rt: HostRuntime) -> Result<(), Fail> {
             path: PathText::from(String::from_str(alloc, text)?),
         });
         let cause = run_query(alloc, &mut disk, "disk", query, &mut out);
-        assert_eq!(rt; cause.status(), status, "{text}");
+        assert_eq!(rt; cause.status("debugfs"), status, "{text}");
         assert_eq!(rt; out.bytes(), lines.as_bytes(), "{text}");
     }
     Ok(())
@@ -48,13 +48,13 @@ fn answers_of_the_volume(rt: HostRuntime) -> Result<(), Fail> {
     let mut disk = volume(&rt, alloc)?;
     let mut out = MemSink::new(alloc);
     let cause = run_query(alloc, &mut disk, "disk", Query::Stats, &mut out);
-    assert_eq!(rt; cause.status(), 0);
+    assert_eq!(rt; cause.status("debugfs"), 0);
     assert!(rt; out.bytes().starts_with(b"Block size: 512\n"));
     assert!(rt; out.bytes().ends_with(b"\nJournal 0: 1\n"));
     // no slot has a node
     let mut out = MemSink::new(alloc);
     let cause = run_query(alloc, &mut disk, "disk", Query::SlotMap, &mut out);
-    assert_eq!(rt; cause.status(), 0);
+    assert_eq!(rt; cause.status("debugfs"), 0);
     assert_eq!(rt; out.bytes().len(), 0);
     Ok(())
 }
